@@ -1,0 +1,75 @@
+-- Faults in order: which of two comes first, and what a sound test says of the bytes.
+use Prim.Native.Nat.{ℕ, suc, _≤_, _<_}
+use mathlib.Core.Path.{_≡_, refl, sym, ap, _∙_}
+use mathlib.Core.Bool.{Bool, true, false, cond, _&&_}
+use mathlib.Core.List.{List}
+use borrow.Author.Tests.{eq-eqb, ne-eqb, eqb-true, eqb-false, leb-true, leb-false, le-leb, lt-leb, le-ltb, ltb-false}
+use native.Mathlib.Nat.{le-antisymm, le-refl}
+use native.Mathlib.Omega.{arith}
+use lib.Dec.{leb, ltb, eqb}
+use lib.ListN.{length, getD}
+use Rattle.answers.specs.declared.Fault.{Fault}
+use Rattle.answers.specs.declared.Answer.{Answer}
+use Rattle.answers.specs.Answers.{fault, sound, refused, _then_, by, byte-fault, length-fault}
+use Rattle.bits.proofs.Below.{both-left, both-right}
+
+-- where the first is sound, the next decides; where it is not, it does
+pub then-next : (f g : Fault) → f .code ≡ 0 → f then g ≡ g
+unfolding _then_
+then-next f g e = ap (λ (t : Bool). cond t g f) (eq-eqb _ _ e)
+
+pub then-stop : (f g : Fault) → (f .code ≡ 0 → ⊥) → f then g ≡ f
+unfolding _then_
+then-stop f g e = ap (λ (t : Bool). cond t g f) (ne-eqb _ _ e)
+
+pub by-next : (who : ℕ) (f : Fault) (next : Answer) → f .code ≡ 0 → by who f next ≡ next
+unfolding by
+by-next who f next e = ap (λ (t : Bool). cond t next (refused (f .code) who (f .place))) (eq-eqb _ _ e)
+
+pub by-stop : (who : ℕ) (f : Fault) (next : Answer) → (f .code ≡ 0 → ⊥) → by who f next ≡ refused (f .code) who (f .place)
+unfolding by
+by-stop who f next e = ap (λ (t : Bool). cond t next (refused (f .code) who (f .place))) (ne-eqb _ _ e)
+
+-- two in a row are sound only if both are
+pub then-both : (f g : Fault) → (f then g) .code ≡ 0 → (f .code ≡ 0) × (g .code ≡ 0)
+unfolding _then_
+then-both f g e = go (eqb (f .code) 0) refl e
+  where
+    go : (t : Bool) → eqb (f .code) 0 ≡ t → cond t g f .code ≡ 0 → (f .code ≡ 0) × (g .code ≡ 0)
+    go true q h = (eqb-true _ _ q, h)
+    go false q h = absurd (eqb-false _ _ q h)
+
+-- a header byte that is sound is there, and from low to high
+pub record Byte (s : List ℕ) (k low high : ℕ) : Type 0 where
+  pub there : k < length s
+  pub least : low ≤ getD s k 0
+  pub most : getD s k 0 ≤ high
+
+pub byte-sound : (s : List ℕ) (k low high code : ℕ) → byte-fault s k low high (suc code) .code ≡ 0 → Byte s k low high
+unfolding byte-fault
+byte-sound s k low high code e = go (leb (length s) k) (leb low (getD s k 0)) (leb (getD s k 0) high) refl refl refl e
+  where
+    go : (short least most : Bool) → leb (length s) k ≡ short → leb low (getD s k 0) ≡ least → leb (getD s k 0) high ≡ most
+      → cond short (fault 1 (length s)) (cond (least && most) sound (fault (suc code) k)) .code ≡ 0 → Byte s k low high
+    go true least most p q r h = absurd (omega (arith, h))
+    go false true true p q r h = record { there = leb-false _ _ p; least = leb-true _ _ q; most = leb-true _ _ r }
+    go false true false p q r h = absurd (omega (arith, h))
+    go false false most p q r h = absurd (omega (arith, h))
+
+-- and one that is there and from low to high is sound
+pub byte-good : (s : List ℕ) (k low high code : ℕ) → Byte s k low high → byte-fault s k low high code ≡ sound
+unfolding byte-fault
+byte-good s k low high code b = simp (lt-leb _ _ (b .there), le-leb _ _ (b .least), le-leb _ _ (b .most))
+
+pub length-sound : (len end : ℕ) → length-fault len end .code ≡ 0 → len ≡ end
+unfolding length-fault
+length-sound len end e = go (ltb len end) (ltb end len) refl refl e
+  where
+    go : (less more : Bool) → ltb len end ≡ less → ltb end len ≡ more → cond less (fault 1 len) (cond more (fault 8 end) sound) .code ≡ 0 → len ≡ end
+    go true more p q h = absurd (omega (arith, h))
+    go false true p q h = absurd (omega (arith, h))
+    go false false p q h = le-antisymm (ltb-false _ _ q) (ltb-false _ _ p)
+
+pub length-good : (len : ℕ) → length-fault len len ≡ sound
+unfolding length-fault
+length-good len = simp (le-ltb len len (le-refl len))

@@ -1,0 +1,59 @@
+-- The numbers of an answer, faults in bytes that are read one after the other, and a lent buffer after an answer.
+-- Document 01, "Numbers returned".
+use Prim.Native.Nat.{ℕ, _+_, _%_, _*_}
+use mathlib.Core.Bool.{Bool, true, false, cond, _&&_}
+use mathlib.Core.List.{List, [], _∷_}
+use lib.Dec.{leb, ltb, eqb}
+use lib.ListN.{length, getD}
+use lib.Seq.{sets}
+use Rattle.answers.specs.declared.Answer.{Answer}
+use Rattle.answers.specs.declared.Fault.{Fault}
+
+infixr 30 _then_
+
+-- accepted: code 0, record 0
+abbrev pub accepted : ℕ → ℕ → Answer
+accepted kind place = record { code = 0; kind = kind; «record» = 0; place = place }
+
+-- refused: kind 0
+abbrev pub refused : ℕ → ℕ → ℕ → Answer
+refused code who place = record { code = code; kind = 0; «record» = who; place = place }
+
+-- a fault: its code, and its place in the bytes that were read; code 0 says that there is none
+abbrev pub fault : ℕ → ℕ → Fault
+fault code place = record { code = code; place = place }
+
+abbrev pub sound : Fault
+sound = fault 0 0
+
+abbrev pub is-sound : Fault → Bool
+is-sound f = eqb (f .code) 0
+
+-- the first of two faults, in the order in which they are looked for
+unfoldable pub _then_ : Fault → Fault → Fault
+f then g = cond (is-sound f) g f
+
+-- refused for a fault in record `who`, or else the answer that comes next
+unfoldable pub by : ℕ → Fault → Answer → Answer
+by who f next = cond (is-sound f) next (refused (f .code) who (f .place))
+
+-- byte k of a header: missing gives 1 at the length, before any test of it; outside low to high gives the code
+unfoldable pub byte-fault : List ℕ → ℕ → ℕ → ℕ → ℕ → Fault
+byte-fault s k low high code =
+    cond (leb (length s) k) (fault 1 (length s)) (cond (leb low (getD s k 0) && leb (getD s k 0) high) sound (fault code k))
+
+-- the length has to be just `end`: 1 where the bytes end too early, 8 where bytes follow
+unfoldable pub length-fault : ℕ → ℕ → Fault
+length-fault len end = cond (ltb len end) (fault 1 len) (cond (ltb end len) (fault 8 end) sound)
+
+-- the answer needs `needed` bytes of the output buffer, which has `room`
+unfoldable pub room-fault : ℕ → ℕ → Fault
+room-fault room needed = cond (ltb room needed) (fault 18 needed) sound
+
+-- a lent buffer afterwards: the bytes at its start and nothing after them if accepted, else unchanged
+unfoldable pub buffer-after : Answer → List ℕ → List ℕ → List ℕ
+buffer-after answer bytes before = cond (eqb (answer .code) 0) (sets before 0 bytes) before
+
+-- one number for a host: code + 256·kind + 65,536·record + 16,777,216·place
+unfoldable pub packed : Answer → ℕ
+packed a = a .code + 256 * a .kind + 65536 * a .«record» + 16777216 * a .place

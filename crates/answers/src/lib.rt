@@ -1,0 +1,94 @@
+// The four numbers of an answer, faults found while bytes are read in order, and writing into a lent buffer.
+ghost use mathlib.Core.Path.{_≡_};
+ghost use Prim.Native.Nat.{_+_, _≤_};
+ghost use lib.ListN.{length};
+ghost use lib.Seq.{sets};
+ghost use Rattle.answers.specs.Answers.{byte-fault, length-fault, room-fault, by};
+ghost use Rattle.answers.specs.Answers.{accepted as accepting, refused as refusing};
+
+// What reader, summary, matcher, checker and writer answer.
+pub struct Answer {
+    pub code: u8,
+    pub kind: u8,
+    pub record: u8,
+    pub place: usize,
+}
+
+// A fault and its place in the bytes that were read; code 0 where there is none.
+pub struct Fault {
+    pub code: u8,
+    pub place: usize,
+}
+
+pub fn accepted(kind: u8, place: usize) -> Answer
+    ensures { λ r. ⌜ r ≡ accepting kind place ⌝ }
+{
+    Answer {
+        code: 0,
+        kind,
+        record: 0,
+        place,
+    }
+}
+
+pub fn refused(code: u8, who: u8, place: usize) -> Answer
+    ensures { λ r. ⌜ r ≡ refusing code who place ⌝ }
+{
+    Answer {
+        code,
+        kind: 0,
+        record: who,
+        place,
+    }
+}
+
+// Byte k of a header has to be there, and from low to high.
+pub fn byte_fault(s: &[u8], k: usize, low: u8, high: u8, code: u8) -> Fault
+    ensures { λ r. ⌜ r ≡ byte-fault (now (s .entry)) k low high code ⌝ }
+{
+    if s.len() <= k {
+        return Fault {
+            code: 1,
+            place: s.len(),
+        };
+    }
+    let b = s[k];
+    if b < low {
+        return Fault { code, place: k };
+    }
+    if high < b {
+        return Fault { code, place: k };
+    }
+    Fault { code: 0, place: 0 }
+}
+
+// The bytes have to end just at `end`.
+pub fn length_fault(len: usize, end: usize) -> Fault
+    ensures { λ r. ⌜ r ≡ length-fault len end ⌝ }
+{
+    if len < end {
+        return Fault {
+            code: 1,
+            place: len,
+        };
+    }
+    if end < len {
+        return Fault {
+            code: 8,
+            place: end,
+        };
+    }
+    Fault { code: 0, place: 0 }
+}
+
+// Stores the bytes into the buffer from `at` on.
+pub fn put(out: &mut [u8], at: usize, bytes: &[u8])
+    requires { ⌜ at + length (now bytes) ≤ length (now out) ⌝ }
+    ensures { λ r. ⌜ now (out .exit) ≡ sets (now (out .entry)) at (now (bytes .entry)) ⌝ }
+{
+    let mut i = 0;
+    while i < bytes.len() {
+        out[at + i] = bytes[i];
+        i += 1;
+    }
+}

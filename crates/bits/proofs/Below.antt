@@ -1,0 +1,118 @@
+-- Tests of every number below a bound: `every`, `any` and `count` say what they seem to.
+use Prim.Native.Nat.{ℕ, zero, suc, _+_, _≤_, _<_}
+use mathlib.Core.Path.{_≡_, refl, sym, ap, ap₂, _∙_}
+use mathlib.Core.Bool.{Bool, true, false, cond, _&&_, _||_, false≢true}
+use mathlib.Core.Logic.{_⊎_, inl, inr, ⊎-elim}
+use native.Mathlib.Nat.{le-refl, le-step, zero-add, add-assoc, le-of-suc-le-suc, not-suc-le-zero, eq-or-lt-of-le}
+use native.Mathlib.Omega.{arith}
+use Rattle.bits.specs.Bits.{every, any, count}
+
+-- ---- Bool: what a joined test says of its parts
+
+pub both-left : (a b : Bool) → a && b ≡ true → a ≡ true
+both-left true b e = refl
+both-left false b e = e
+
+pub both-right : (a b : Bool) → a && b ≡ true → b ≡ true
+both-right true b e = e
+both-right false b e = absurd (false≢true e)
+
+pub both : {a b : Bool} → a ≡ true → b ≡ true → a && b ≡ true
+both {a} {b} p q = ap₂ _&&_ p q
+
+pub either : (a b : Bool) → a || b ≡ true → (a ≡ true) ⊎ (b ≡ true)
+either true b e = inl refl
+either false b e = inr e
+
+pub or-left : {a : Bool} (b : Bool) → a ≡ true → a || b ≡ true
+or-left b p = ap (λ (x : Bool). x || b) p
+
+pub or-right : (a : Bool) {b : Bool} → b ≡ true → a || b ≡ true
+or-right true p = refl
+or-right false p = p
+
+pub or-assoc : (a b c : Bool) → a || b || c ≡ a || (b || c)
+or-assoc true b c = refl
+or-assoc false b c = refl
+
+pub or-false : (a : Bool) → a || false ≡ a
+or-false true = refl
+or-false false = refl
+
+-- two tests are equal where each passes if the other does
+pub same-test : (a b : Bool) → (a ≡ true → b ≡ true) → (b ≡ true → a ≡ true) → a ≡ b
+same-test true b f g = sym (f refl)
+same-test false true f g = g refl
+same-test false false f g = refl
+
+-- a test either passes or fails, with the equation that says so
+pub decide : (a : Bool) → (a ≡ true) ⊎ (a ≡ false)
+decide true = inl refl
+decide false = inr refl
+
+-- ---- below a bound
+
+-- below the next bound is this one, or below this one
+pub below-suc : {k n : ℕ} → k < suc n → (k ≡ n) ⊎ (k < n)
+below-suc h = eq-or-lt-of-le (le-of-suc-le-suc h)
+
+module _ (p : ℕ → Bool) where
+  pub every-at : (n : ℕ) → every n p ≡ true → (k : ℕ) → k < n → p k ≡ true
+  unfolding every
+  every-at zero e k h = absurd (not-suc-le-zero h)
+  every-at (suc n) e k h =
+      ⊎-elim (λ (q : k ≡ n). ap p q ∙ both-right (every n p) (p n) e)
+      (λ (l : k < n). every-at n (both-left (every n p) (p n) e) k l)
+      (below-suc h)
+
+  pub every-if : (n : ℕ) → ((k : ℕ) → k < n → p k ≡ true) → every n p ≡ true
+  unfolding every
+  every-if zero f = refl
+  every-if (suc n) f = both (every-if n (λ k h. f k (le-step h))) (f n (le-refl (suc n)))
+
+  pub any-at : (n : ℕ) → any n p ≡ true → (k : ℕ) × (k < n) × (p k ≡ true)
+  unfolding any
+  any-at zero e = absurd (false≢true e)
+  any-at (suc n) e =
+      ⊎-elim (λ (q : any n p ≡ true). let w = any-at n q in (w .0, le-step (w .1), w .2))
+      (λ (q : p n ≡ true). (n, le-refl (suc n), q))
+      (either (any n p) (p n) e)
+
+  pub any-if : (n k : ℕ) → k < n → p k ≡ true → any n p ≡ true
+  unfolding any
+  any-if zero k h e = absurd (not-suc-le-zero h)
+  any-if (suc n) k h e =
+      ⊎-elim (λ (q : k ≡ n). or-right (any n p) (sym (ap p q) ∙ e))
+      (λ (l : k < n). or-left (p n) (any-if n k l e))
+      (below-suc h)
+
+  -- no more numbers pass than there are
+  pub count-le : (n : ℕ) → count n p ≤ n
+  unfolding count
+  count-le zero = le-refl 0
+  count-le (suc n) = elim (p n) as (λ t. count n p + cond t 1 0 ≤ suc n) [ true ↦ omega (arith, count-le n) | false ↦ omega (arith, count-le n) ]
+
+  -- the same count, from the bottom
+  pub count-low : (n : ℕ) → count (suc n) p ≡ cond (p 0) 1 0 + count n (λ k. p (suc k))
+  unfolding count
+  count-low zero = omega arith
+  count-low (suc n) = ap (λ (c : ℕ). c + cond (p (suc n)) 1 0) (count-low n) ∙ add-assoc (cond (p 0) 1 0) (count n (λ k. p (suc k))) (cond (p (suc n)) 1 0)
+
+-- tests that say the same below n are passed alike
+module _ (p q : ℕ → Bool) where
+  pub every-same : (n : ℕ) → ((k : ℕ) → k < n → p k ≡ q k) → every n p ≡ every n q
+  every-same n f =
+      same-test (every n p) (every n q)
+      (λ e. every-if q n (λ k h. sym (f k h) ∙ every-at p n e k h))
+      (λ e. every-if p n (λ k h. f k h ∙ every-at q n e k h))
+
+  pub any-same : (n : ℕ) → ((k : ℕ) → k < n → p k ≡ q k) → any n p ≡ any n q
+  any-same n f =
+      same-test (any n p) (any n q)
+      (λ e. let w = any-at p n e in any-if q n (w .0) (w .1) (sym (f (w .0) (w .1)) ∙ w .2))
+      (λ e. let w = any-at q n e in any-if p n (w .0) (w .1) (f (w .0) (w .1) ∙ w .2))
+
+  pub count-same : (n : ℕ) → ((k : ℕ) → k < n → p k ≡ q k) → count n p ≡ count n q
+  unfolding count
+  count-same zero f = refl
+  count-same (suc n) f = ap₂ (λ (c : ℕ) (t : Bool). c + cond t 1 0) (count-same n (λ k h. f k (le-step h))) (f n (le-refl (suc n)))

@@ -1,0 +1,96 @@
+-- What the mask tests say of patterns. The idea: a cube holds x where, at each input, P ≤ x and N + x ≤ 1 as bits; the
+-- operators of the code act bit by bit, so each law is one question of arithmetic on single bits.
+use Prim.Native.Nat.{ℕ, _+_, _^_, _≤_, _<_, min, max}
+use mathlib.Core.Path.{_≡_, refl, sym, ap, ap₂, _∙_}
+use mathlib.Core.Bool.{Bool, true, false, _&&_}
+use native.Mathlib.Nat.{lt-of-le-of-lt}
+use native.Mathlib.Omega.{arith}
+use borrow.Author.Tests.{leb-true, le-leb, eqb-true, eq-eqb}
+use lib.Bits.{bitAnd, bitOr, and-le-l, and-le-r, or-lt}
+use lib.Dec.{leb, eqb}
+use Rattle.bits.specs.Bits.{bit}
+use Rattle.bits.proofs.Below.{every-at, every-if, any-at, any-if, both, both-left, both-right, same-test}
+use Rattle.bits.proofs.Bit.{bit-le, bit-and, bit-or, bit-zero, bits-eq, bits-zero}
+use Rattle.cubes.specs.Cubes.{meets, cube-holds, cubes-share}
+
+-- ---- a cube holds a pattern exactly when each input is as it asks
+
+-- input i is as the cube asks, as two orders of bits
+pub record Meets (P N x i : ℕ) : Type 0 where
+  pub ones : bit i P ≤ bit i x
+  pub zeros : bit i N + bit i x ≤ 1
+
+pub holds-at : (P N x : ℕ) → cube-holds P N x ≡ true → (i : ℕ) → i < 8 → Meets P N x i
+unfolding cube-holds
+holds-at P N x e i h =
+    let t : meets P N x i ≡ true = every-at (meets P N x) 8 e i h in
+    let one : Bool = leb (bit i P) (bit i x) in
+    let zero : Bool = leb (bit i N + bit i x) 1 in
+    record { ones = leb-true _ _ (both-left one zero t); zeros = leb-true _ _ (both-right one zero t) }
+
+pub holds-if : (P N x : ℕ) → ((i : ℕ) → i < 8 → Meets P N x i) → cube-holds P N x ≡ true
+unfolding cube-holds
+holds-if P N x f = every-if (meets P N x) 8 (λ i h. both (le-leb _ _ (f i h .ones)) (le-leb _ _ (f i h .zeros)))
+
+-- the test by masks
+pub holds-masks : (P N x : ℕ) → P < 2 ^ 8 → N < 2 ^ 8 → cube-holds P N x ≡ eqb (bitAnd P x) P && eqb (bitAnd N x) 0
+holds-masks P N x p n = same-test _ _ forth back
+  where
+    forth : cube-holds P N x ≡ true → eqb (bitAnd P x) P && eqb (bitAnd N x) 0 ≡ true
+    forth e =
+        both
+        (eq-eqb _ _ (bits-eq 8 (bitAnd P x) P (lt-of-le-of-lt (and-le-l P x) p) p (λ i h. omega (arith, bit-and i P x, holds-at P N x e i h .ones))))
+        (eq-eqb _ _ (bits-zero 8 (bitAnd N x) (lt-of-le-of-lt (and-le-l N x) n) (λ i h. omega (arith, bit-and i N x, holds-at P N x e i h .zeros))))
+
+    back : eqb (bitAnd P x) P && eqb (bitAnd N x) 0 ≡ true → cube-holds P N x ≡ true
+    back e =
+        let ones : bitAnd P x ≡ P = eqb-true _ _ (both-left (eqb (bitAnd P x) P) (eqb (bitAnd N x) 0) e) in
+        let zeros : bitAnd N x ≡ 0 = eqb-true _ _ (both-right (eqb (bitAnd P x) P) (eqb (bitAnd N x) 0) e) in
+        holds-if P N x
+        (λ i h. record {
+          ones = omega (arith, bit-and i P x, ap (bit i) ones);
+          zeros = omega (arith, bit-and i N x, ap (bit i) zeros, bit-zero i, bit-le i N, bit-le i x) })
+
+-- ---- two cubes share a pattern exactly when no input is asked to be both 1 and 0; the witness is P or P′
+
+module _ (P N P′ N′ : ℕ) where
+  -- no input is in P or P′ and in N or N′ too
+  abbrev pub Clear : Type 0
+  Clear = bitAnd (bitOr P P′) (bitOr N N′) ≡ 0
+
+  clear-at : Clear → (i : ℕ) → min (max (bit i P) (bit i P′)) (max (bit i N) (bit i N′)) ≡ 0
+  clear-at e i =
+      ap₂ min (sym (bit-or i P P′)) (sym (bit-or i N N′)) ∙ sym (bit-and i (bitOr P P′) (bitOr N N′)) ∙ ap (bit i) e ∙ bit-zero i
+
+  pub witness : Clear → (cube-holds P N (bitOr P P′) ≡ true) × (cube-holds P′ N′ (bitOr P P′) ≡ true)
+  witness e =
+      (holds-if P N (bitOr P P′) (λ i h. record {
+        ones = omega (arith, bit-or i P P′);
+        zeros = omega (arith, bit-or i P P′, clear-at e i, bit-le i P, bit-le i P′, bit-le i N) }),
+      holds-if P′ N′ (bitOr P P′) (λ i h. record {
+        ones = omega (arith, bit-or i P P′);
+        zeros = omega (arith, bit-or i P P′, clear-at e i, bit-le i P, bit-le i P′, bit-le i N′) }))
+
+  -- where both hold any pattern, no input is asked to be both
+  pub shared-clear : N < 2 ^ 8 → N′ < 2 ^ 8 → (x : ℕ) → cube-holds P N x ≡ true → cube-holds P′ N′ x ≡ true → Clear
+  shared-clear n n′ x e e′ =
+      bits-zero 8 (bitAnd (bitOr P P′) (bitOr N N′))
+      (lt-of-le-of-lt (and-le-r (bitOr P P′) (bitOr N N′)) (or-lt 8 N N′ n n′))
+      (λ i h.
+        bit-and i (bitOr P P′) (bitOr N N′) ∙ ap₂ min (bit-or i P P′) (bit-or i N N′)
+        ∙ omega (arith, holds-at P N x e i h .ones, holds-at P N x e i h .zeros, holds-at P′ N′ x e′ i h .ones, holds-at P′ N′ x e′ i h .zeros))
+
+  -- the test by masks, for cubes of any number of inputs
+  pub share-masks : (n : ℕ) → P < 2 ^ n → P′ < 2 ^ n → N < 2 ^ 8 → N′ < 2 ^ 8 → cubes-share n P N P′ N′ ≡ eqb (bitAnd (bitOr P P′) (bitOr N N′)) 0
+  unfolding cubes-share
+  share-masks n p p′ h h′ =
+      same-test _ _
+      (λ e.
+        let w = any-at (λ x. cube-holds P N x && cube-holds P′ N′ x) (2 ^ n) e in
+        eq-eqb _ _
+        (shared-clear h h′ (w .0)
+        (both-left (cube-holds P N (w .0)) (cube-holds P′ N′ (w .0)) (w .2))
+        (both-right (cube-holds P N (w .0)) (cube-holds P′ N′ (w .0)) (w .2))))
+      (λ e.
+        let w = witness (eqb-true _ _ e) in
+        any-if (λ x. cube-holds P N x && cube-holds P′ N′ x) (2 ^ n) (bitOr P P′) (or-lt n P P′ p p′) (both (w .0) (w .1)))

@@ -1,0 +1,90 @@
+//! The functions under test.
+//!
+//! The archive exports them for C: a slice is a pointer, then a length. No call
+//! asks anything of its caller, so the safe functions here only take the slices
+//! apart. Nothing checks these declarations against the archive.
+
+mod foreign {
+    extern "C" {
+        pub fn probe_read(
+            record: *const u8,
+            record_len: usize,
+            numbers: *mut u64,
+            numbers_len: usize,
+        ) -> u64;
+
+        pub fn probe_summary(
+            record: *const u8,
+            record_len: usize,
+            numbers: *mut u64,
+            numbers_len: usize,
+        ) -> u64;
+
+        pub fn probe_write(
+            n: u8,
+            on: *const u8,
+            on_len: usize,
+            off: *const u8,
+            off_len: usize,
+            out: *mut u8,
+            out_len: usize,
+        ) -> u64;
+
+        pub fn probe_fault(
+            f: *const u8,
+            f_len: usize,
+            g: *const u8,
+            g_len: usize,
+            out: *mut u8,
+            out_len: usize,
+        ) -> u64;
+    }
+}
+
+/// Reads a record: the packed answer, and n, a, b in the first three numbers if
+/// the slice has three or more; else the slice is not touched.
+pub fn read(record: &[u8], numbers: &mut [u64]) -> u64 {
+    let len = numbers.len();
+    unsafe { foreign::probe_read(record.as_ptr(), record.len(), numbers.as_mut_ptr(), len) }
+}
+
+/// Summarises a record: the packed answer, and on patterns, off patterns and
+/// inputs in use, put into the slice as `read` does.
+pub fn summary(record: &[u8], numbers: &mut [u64]) -> u64 {
+    let len = numbers.len();
+    unsafe { foreign::probe_summary(record.as_ptr(), record.len(), numbers.as_mut_ptr(), len) }
+}
+
+/// Writes a record from n and two lists of cube bytes: the packed answer.
+pub fn write(n: u8, on: &[u8], off: &[u8], out: &mut [u8]) -> u64 {
+    let len = out.len();
+    unsafe {
+        foreign::probe_write(
+            n,
+            on.as_ptr(),
+            on.len(),
+            off.as_ptr(),
+            off.len(),
+            out.as_mut_ptr(),
+            len,
+        )
+    }
+}
+
+/// The bytes at fault: their number, and a copy at the start of `out` if it fits.
+pub fn fault(f: &[u8], g: &[u8], out: &mut [u8]) -> u64 {
+    let len = out.len();
+    unsafe { foreign::probe_fault(f.as_ptr(), f.len(), g.as_ptr(), g.len(), out.as_mut_ptr(), len) }
+}
+
+/// The calls on function records, as a value: a test can put a wrong one in the
+/// place of one of them and see that the comparison notices.
+#[derive(Clone, Copy)]
+pub struct RecordCalls {
+    pub read: fn(&[u8], &mut [u64]) -> u64,
+    pub summary: fn(&[u8], &mut [u64]) -> u64,
+    pub write: fn(u8, &[u8], &[u8], &mut [u8]) -> u64,
+    pub fault: fn(&[u8], &[u8], &mut [u8]) -> u64,
+}
+
+pub const ARCHIVE: RecordCalls = RecordCalls { read, summary, write, fault };

@@ -1,0 +1,265 @@
+//! The small functions and cases that 01 names, with the numbers it gives.
+//!
+//! What a comment marks "by hand" is worked out from a rule of 01 that it names
+//! no case for. Nothing here was copied from an output.
+
+use crate::reference::answer::Answer;
+use crate::reference::fault::{Owner, Part};
+
+pub const CONJ: &[u8] = &[0x46, 0x4E, 0x02, 0x01, 0x02, 0x03, 0x00, 0x00, 0x01, 0x00, 0x02];
+pub const DISJ: &[u8] = &[0x46, 0x4E, 0x02, 0x02, 0x01, 0x01, 0x00, 0x02, 0x00, 0x00, 0x03];
+pub const ODD: &[u8] =
+    &[0x46, 0x4E, 0x02, 0x02, 0x02, 0x01, 0x02, 0x02, 0x01, 0x03, 0x00, 0x00, 0x03];
+pub const CONST: &[u8] = &[0x46, 0x4E, 0x01, 0x01, 0x00, 0x00, 0x00];
+pub const WIRE: &[u8] = &[0x46, 0x4E, 0x01, 0x01, 0x01, 0x01, 0x00, 0x00, 0x01];
+pub const OPEN: &[u8] = &[0x46, 0x4E, 0x01, 0x00, 0x00];
+
+pub const NAMED: [&[u8]; 6] = [CONJ, DISJ, ODD, CONST, WIRE, OPEN];
+
+/// Some bytes, so many times over: it spares writing 64 cubes out.
+type Run = (&'static [u8], usize);
+
+fn bytes(runs: &[Run]) -> Vec<u8> {
+    runs.iter().flat_map(|(bytes, times)| bytes.repeat(*times)).collect()
+}
+
+/// A reading: its code (0 if accepted), its place, and n, a, b.
+pub struct ReadingCase {
+    pub name: &'static str,
+    pub runs: &'static [Run],
+    pub code: u64,
+    pub place: usize,
+    pub numbers: [u64; 3],
+}
+
+impl ReadingCase {
+    pub fn record(&self) -> Vec<u8> {
+        bytes(self.runs)
+    }
+
+    /// The answer where a refusal gives the record this number.
+    pub fn answer(&self, which: u64) -> Answer {
+        match self.code {
+            0 => Answer::accepted(3, self.place),
+            code => Answer::refused(code, which, self.place),
+        }
+    }
+}
+
+const fn accepted(
+    name: &'static str,
+    runs: &'static [Run],
+    place: usize,
+    numbers: [u64; 3],
+) -> ReadingCase {
+    ReadingCase { name, runs, code: 0, place, numbers }
+}
+
+const fn refused(name: &'static str, runs: &'static [Run], code: u64, place: usize) -> ReadingCase {
+    ReadingCase { name, runs, code, place, numbers: [0, 0, 0] }
+}
+
+pub const READINGS: &[ReadingCase] = &[
+    accepted("Conj", &[(CONJ, 1)], 11, [2, 1, 2]),
+    accepted("Disj", &[(DISJ, 1)], 11, [2, 2, 1]),
+    accepted("Odd", &[(ODD, 1)], 13, [2, 2, 2]),
+    accepted("Const", &[(CONST, 1)], 7, [1, 1, 0]),
+    accepted("Wire", &[(WIRE, 1)], 9, [1, 1, 1]),
+    accepted("Open", &[(OPEN, 1)], 5, [1, 0, 0]),
+    // "A count of 64 passes."
+    accepted("64 on cubes", &[(&[0x46, 0x4E, 1, 64, 0], 1), (&[1, 0], 64)], 133, [1, 64, 0]),
+    accepted("64 off cubes", &[(&[0x46, 0x4E, 1, 0, 64], 1), (&[1, 0], 64)], 133, [1, 0, 64]),
+    accepted(
+        "64 on cubes and 64 off cubes",
+        &[(&[0x46, 0x4E, 8, 64, 64], 1), (&[0x80, 0], 64), (&[0, 0x80], 64)],
+        261,
+        [8, 64, 64],
+    ),
+    refused("empty record", &[], 1, 0),
+    refused("46 4E 00", &[(&[0x46, 0x4E, 0x00], 1)], 3, 2),
+    refused("46 4E 08 41", &[(&[0x46, 0x4E, 0x08, 0x41], 1)], 4, 3),
+    // The readings of the order, one for each step of it; by hand.
+    refused("the mark's first byte alone", &[(&[0x46], 1)], 1, 1),
+    refused("a wrong first byte", &[(&[0x47], 1)], 2, 0),
+    refused("a wrong second byte", &[(&[0x46, 0x46], 1)], 2, 1),
+    refused("the mark alone", &[(&[0x46, 0x4E], 1)], 1, 2),
+    refused("n is 9", &[(&[0x46, 0x4E, 9], 1)], 3, 2),
+    refused("no counts", &[(&[0x46, 0x4E, 8], 1)], 1, 3),
+    refused("no off count, 64 on", &[(&[0x46, 0x4E, 8, 64], 1)], 1, 4),
+    refused("65 off cubes", &[(&[0x46, 0x4E, 8, 64, 65], 1)], 4, 4),
+    refused("65 on cubes, all there", &[(&[0x46, 0x4E, 1, 65, 0], 1), (&[1, 0], 65)], 4, 3),
+    refused("no cube where one is due", &[(&[0x46, 0x4E, 1, 1, 0], 1)], 1, 5),
+    refused("half a cube, and bad", &[(&[0x46, 0x4E, 1, 1, 0, 0xFF], 1)], 1, 6),
+    refused("a bad cube, then one byte more", &[(&[0x46, 0x4E, 1, 1, 0, 2, 0, 0], 1)], 8, 7),
+    refused("P names input n", &[(&[0x46, 0x4E, 1, 1, 0, 2, 0], 1)], 5, 5),
+    refused("N names input n", &[(&[0x46, 0x4E, 1, 1, 0, 0, 2], 1)], 5, 5),
+    refused("input n in both masks", &[(&[0x46, 0x4E, 1, 1, 0, 2, 2], 1)], 5, 5),
+    refused("input 0 in both masks", &[(&[0x46, 0x4E, 1, 0, 1, 1, 1], 1)], 6, 5),
+    refused("6 in cube 0, 5 in cube 1", &[(&[0x46, 0x4E, 1, 1, 1, 1, 1, 2, 0], 1)], 6, 5),
+    refused("5 in cube 1, 6 in cube 2", &[(&[0x46, 0x4E, 1, 2, 1, 1, 0, 2, 0, 1, 1], 1)], 5, 7),
+    refused("on and off everywhere", &[(&[0x46, 0x4E, 1, 1, 1, 0, 0, 0, 0], 1)], 7, 5),
+    refused(
+        "on cube 0 meets the last off cube",
+        &[(&[0x46, 0x4E, 2, 2, 2, 3, 0, 1, 2, 0, 3, 1, 0], 1)],
+        7,
+        5,
+    ),
+    refused(
+        "only on cube 1 meets an off cube",
+        &[(&[0x46, 0x4E, 2, 2, 2, 3, 0, 1, 0, 0, 1, 1, 2], 1)],
+        7,
+        7,
+    ),
+    refused("7 waits for a bad off cube", &[(&[0x46, 0x4E, 1, 1, 2, 0, 0, 0, 0, 1, 1], 1)], 6, 9),
+];
+
+/// A summary of an accepted record: on patterns, off patterns, inputs in use.
+pub struct SummaryCase {
+    pub name: &'static str,
+    pub record: &'static [u8],
+    pub numbers: [u64; 3],
+}
+
+pub const SUMMARIES: &[SummaryCase] = &[
+    SummaryCase { name: "Conj", record: CONJ, numbers: [1, 3, 2] },
+    SummaryCase { name: "Odd", record: ODD, numbers: [2, 2, 2] },
+    SummaryCase { name: "Open", record: OPEN, numbers: [0, 0, 0] },
+    // By hand. Both on cubes of Disj hold pattern 3, which counts once.
+    SummaryCase { name: "Disj", record: DISJ, numbers: [3, 1, 2] },
+    SummaryCase { name: "Const", record: CONST, numbers: [2, 0, 0] },
+    SummaryCase { name: "Wire", record: WIRE, numbers: [1, 1, 1] },
+    SummaryCase {
+        name: "one cube of 128 patterns, one of 64, inputs 7 and 0 in use",
+        record: &[0x46, 0x4E, 8, 1, 1, 0x80, 0, 0x01, 0x80],
+        numbers: [128, 64, 2],
+    },
+];
+
+/// A writing. `written` is given where 01 has the record.
+pub struct WritingCase {
+    pub name: &'static str,
+    pub n: u8,
+    pub on: Run,
+    pub off: Run,
+    pub room: usize,
+    pub code: u64,
+    pub record: u64,
+    pub place: usize,
+    pub written: Option<&'static [u8]>,
+}
+
+impl WritingCase {
+    pub fn on(&self) -> Vec<u8> {
+        bytes(&[self.on])
+    }
+
+    pub fn off(&self) -> Vec<u8> {
+        bytes(&[self.off])
+    }
+
+    pub fn answer(&self) -> Answer {
+        match self.code {
+            0 => Answer::accepted(3, self.place),
+            code => Answer::refused(code, self.record, self.place),
+        }
+    }
+}
+
+const NONE: Run = (&[], 0);
+
+const fn written(
+    name: &'static str,
+    n: u8,
+    on: Run,
+    off: Run,
+    room: usize,
+    written: &'static [u8],
+) -> WritingCase {
+    let place = written.len();
+    WritingCase { name, n, on, off, room, code: 0, record: 0, place, written: Some(written) }
+}
+
+const fn unwritten(
+    name: &'static str,
+    n: u8,
+    on: Run,
+    off: Run,
+    room: usize,
+    [code, record, place]: [u64; 3],
+) -> WritingCase {
+    WritingCase { name, n, on, off, room, code, record, place: place as usize, written: None }
+}
+
+/// By hand, but for the six records: 01 names no case of the writer.
+pub const WRITINGS: &[WritingCase] = &[
+    written("Conj", 2, (&[3, 0], 1), (&[0, 1, 0, 2], 1), 11, CONJ),
+    written("Disj", 2, (&[1, 0, 2, 0], 1), (&[0, 3], 1), 12, DISJ),
+    written("Odd", 2, (&[1, 2, 2, 1], 1), (&[3, 0, 0, 3], 1), 13, ODD),
+    written("Const", 1, (&[0, 0], 1), NONE, 7, CONST),
+    written("Wire", 1, (&[1, 0], 1), (&[0, 1], 1), 300, WIRE),
+    written("Open", 1, NONE, NONE, 5, OPEN),
+    WritingCase {
+        name: "64 and 64 cubes in the exact room",
+        n: 1,
+        on: (&[1, 0], 64),
+        off: (&[0, 1], 64),
+        room: 261,
+        code: 0,
+        record: 0,
+        place: 261,
+        written: None,
+    },
+    unwritten("Conj, one byte short", 2, (&[3, 0], 1), (&[0, 1, 0, 2], 1), 10, [18, 4, 11]),
+    unwritten("Open, no room", 1, NONE, NONE, 0, [18, 4, 5]),
+    unwritten("n is 0, all else wrong", 0, (&[1], 131), (&[1], 1), 0, [3, 0, 0]),
+    unwritten("n is 9", 9, NONE, NONE, 5, [3, 0, 0]),
+    unwritten("n is 255", 255, NONE, NONE, 5, [3, 0, 0]),
+    unwritten("odd on list, odd off list", 1, (&[2], 1), (&[2], 3), 0, [19, 1, 1]),
+    unwritten("odd off list, 65 on cubes", 1, (&[2, 0], 65), (&[2], 3), 0, [19, 2, 3]),
+    unwritten("odd and too many", 1, (&[1], 131), NONE, 0, [19, 1, 131]),
+    unwritten("65 on cubes, 65 off cubes", 1, (&[2, 0], 65), (&[2, 0], 65), 0, [4, 1, 128]),
+    unwritten("65 off cubes, a bad on cube", 1, (&[2, 0], 1), (&[0, 1], 65), 0, [4, 2, 128]),
+    unwritten("500 off cubes", 1, NONE, (&[0, 1], 500), 2000, [4, 2, 128]),
+    unwritten("5 in the on list", 1, (&[1, 0, 2, 0], 1), (&[1, 1], 1), 0, [5, 1, 2]),
+    unwritten("6 in the on list, 5 later", 1, (&[1, 1, 2, 0], 1), NONE, 0, [6, 1, 0]),
+    unwritten("5 and 6 in one cube", 1, NONE, (&[1, 0, 3, 3], 1), 0, [5, 2, 2]),
+    unwritten("6 in the off list", 2, (&[1, 0], 1), (&[1, 0, 2, 2], 1), 0, [6, 2, 2]),
+    unwritten("a shared pattern", 2, (&[3, 0, 1, 0], 1), (&[0, 1, 1, 2], 1), 0, [7, 1, 2]),
+];
+
+/// The bytes at fault of two records.
+pub struct FaultCase {
+    pub name: &'static str,
+    pub f: &'static [u8],
+    pub g: &'static [u8],
+    pub part: Part,
+    pub bytes: &'static [u8],
+}
+
+const EMPTY: Part = Part { owner: Owner::F, start: 0, len: 0 };
+
+const fn at(owner: Owner, start: usize) -> Part {
+    Part { owner, start, len: 2 }
+}
+
+/// Cube 1 names input n; cube 0 has input 2 twice; on cube 1 is also off.
+const FIVE: &[u8] = &[0x46, 0x4E, 1, 1, 1, 1, 0, 0, 2];
+const SIX: &[u8] = &[0x46, 0x4E, 3, 1, 0, 5, 4];
+const SEVEN: &[u8] = &[0x46, 0x4E, 2, 2, 1, 0, 3, 3, 0, 2, 0];
+
+/// By hand: 01 names no case of it.
+pub const FAULTS: &[FaultCase] = &[
+    FaultCase { name: "5 in f", f: FIVE, g: CONJ, part: at(Owner::F, 7), bytes: &[0, 2] },
+    FaultCase { name: "6 in f", f: SIX, g: CONJ, part: at(Owner::F, 5), bytes: &[5, 4] },
+    FaultCase { name: "7 in f", f: SEVEN, g: CONJ, part: at(Owner::F, 7), bytes: &[3, 0] },
+    FaultCase { name: "5 in g", f: CONJ, g: FIVE, part: at(Owner::G, 7), bytes: &[0, 2] },
+    FaultCase { name: "6 in g", f: CONJ, g: SIX, part: at(Owner::G, 5), bytes: &[5, 4] },
+    FaultCase { name: "7 in g", f: CONJ, g: SEVEN, part: at(Owner::G, 7), bytes: &[3, 0] },
+    FaultCase { name: "both", f: SEVEN, g: SIX, part: at(Owner::F, 7), bytes: &[3, 0] },
+    FaultCase { name: "none", f: CONJ, g: DISJ, part: EMPTY, bytes: &[] },
+    // "Wire to Conj: 9", which is no cube's fault.
+    FaultCase { name: "n differs", f: WIRE, g: CONJ, part: EMPTY, bytes: &[] },
+    FaultCase { name: "f empty, g bad", f: &[], g: SIX, part: EMPTY, bytes: &[] },
+    FaultCase { name: "f good, g empty", f: CONJ, g: &[], part: EMPTY, bytes: &[] },
+    FaultCase { name: "f of wrong mark, g bad", f: &[0x47], g: SIX, part: EMPTY, bytes: &[] },
+];

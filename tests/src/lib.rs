@@ -1,0 +1,19 @@
+//! Tests of the calls of document 01 against an implementation of its own.
+//!
+//! - `reference`: 01 in plain Rust, from its text, by patterns and brute force;
+//! - `calls`: the functions under test, taken from the static archive;
+//! - `random`: a generator with fixed seeds, and the functions made by it;
+//! - `records`: the calls on function records, held against the reference;
+//! - `cases`: the small functions and cases that 01 names, with its numbers;
+//! - `tally`, `show`: what was compared, and how bytes and answers are printed.
+//!
+//! Wirings, claims, checker and matcher each get a module of the reference and
+//! a module beside `records`.
+
+pub mod calls;
+pub mod cases;
+pub mod random;
+pub mod records;
+pub mod reference;
+pub mod show;
+pub mod tally;

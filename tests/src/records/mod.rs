@@ -1,0 +1,170 @@
+//! The calls on function records, held against the reference.
+//!
+//! A `Trial` has the calls under test. Each of its methods makes one call and
+//! compares every number returned and every element of a lent slice with what
+//! the reference says. `parts` has the inputs.
+
+pub mod parts;
+
+use crate::calls::RecordCalls;
+use crate::reference::answer::Answer;
+use crate::reference::fault::{self, Owner};
+use crate::reference::record;
+use crate::reference::summary;
+use crate::reference::writer;
+use crate::show::{self, hex};
+use crate::tally::Tally;
+
+/// The names of the calls in the tally. The bytes at fault have three lines, by
+/// whose they are.
+pub const READ: &str = "read";
+pub const SUMMARY: &str = "summary";
+pub const WRITE: &str = "write";
+pub const FAULT_OF_F: &str = "fault, part of f";
+pub const FAULT_OF_G: &str = "fault, part of g";
+pub const FAULT_EMPTY: &str = "fault, empty";
+
+/// What differed, if anything did.
+pub type Outcome = Result<(), String>;
+
+pub struct Trial {
+    pub calls: RecordCalls,
+    pub tally: Tally,
+}
+
+impl Trial {
+    pub fn new(calls: RecordCalls) -> Trial {
+        Trial { calls, tally: Tally::default() }
+    }
+
+    /// Reads a record, with a slice of three numbers.
+    pub fn read(&mut self, record: &[u8]) -> Outcome {
+        self.read_into(record, 3)
+    }
+
+    /// Reads a record, with a slice of so many numbers.
+    pub fn read_into(&mut self, record: &[u8], slots: usize) -> Outcome {
+        let want = record::read(record, 1);
+        let numbers = [want.n, want.a, want.b];
+        compare_numbers(READ, self.calls.read, record, slots, want.answer, numbers)?;
+        self.tally.add(READ, want.answer.code);
+        Ok(())
+    }
+
+    /// Summarises a record, with a slice of three numbers.
+    pub fn summary(&mut self, record: &[u8]) -> Outcome {
+        self.summary_into(record, 3)
+    }
+
+    /// Summarises a record, with a slice of so many numbers.
+    pub fn summary_into(&mut self, record: &[u8], slots: usize) -> Outcome {
+        let want = summary::summary(record);
+        let numbers = [want.on, want.off, want.in_use];
+        compare_numbers(SUMMARY, self.calls.summary, record, slots, want.answer, numbers)?;
+        self.tally.add(SUMMARY, want.answer.code);
+        Ok(())
+    }
+
+    /// Writes a record into a buffer of so many bytes.
+    pub fn write(&mut self, n: u8, on: &[u8], off: &[u8], room: usize) -> Outcome {
+        let (want, written) = writer::write(n, on, off, room);
+        let expected = lent(room, byte, written.as_deref().unwrap_or(&[]));
+        let mut buffer = lent(room, byte, &[]);
+        let got = (self.calls.write)(n, on, off, inside(&mut buffer));
+        if got != want.packed() || buffer != expected {
+            return Err(format!(
+                "write, n {n}, room {room}\n  on   {}\n  off  {}\n  want {}\n  got  {}\n  \
+                 buffer wanted {}\n  buffer found  {}",
+                hex(on),
+                hex(off),
+                show::answer(want),
+                show::answer(Answer::unpacked(got)),
+                hex(&expected),
+                hex(&buffer),
+            ));
+        }
+        self.tally.add(WRITE, want.code);
+        Ok(())
+    }
+
+    /// The bytes at fault, with a buffer of so many bytes.
+    pub fn fault(&mut self, f: &[u8], g: &[u8], room: usize) -> Outcome {
+        let refusal = fault::refusal(f, g);
+        let part = fault::part(refusal);
+        let want = part.of(f, g);
+        let expected = lent(room, byte, if want.len() <= room { want } else { &[] });
+        let mut buffer = lent(room, byte, &[]);
+        let got = (self.calls.fault)(f, g, inside(&mut buffer));
+        if got != want.len() as u64 || buffer != expected {
+            return Err(format!(
+                "fault, room {room}\n  f    {}\n  g    {}\n  reading {}\n  want {}, {part:?}\n  \
+                 got  {got} bytes\n  buffer wanted {}\n  buffer found  {}",
+                hex(f),
+                hex(g),
+                show::answer(refusal),
+                hex(want),
+                hex(&expected),
+                hex(&buffer),
+            ));
+        }
+        let line = match (part.len, part.owner) {
+            (0, _) => FAULT_EMPTY,
+            (_, Owner::F) => FAULT_OF_F,
+            (_, Owner::G) => FAULT_OF_G,
+        };
+        self.tally.add(line, refusal.code);
+        Ok(())
+    }
+}
+
+/// Makes a call that puts three numbers into a slice if it has three or more.
+fn compare_numbers(
+    name: &str,
+    call: fn(&[u8], &mut [u64]) -> u64,
+    record: &[u8],
+    slots: usize,
+    want: Answer,
+    numbers: [u64; 3],
+) -> Outcome {
+    let expected = lent(slots, word, if slots >= 3 { &numbers } else { &[] });
+    let mut slice = lent(slots, word, &[]);
+    let got = call(record, inside(&mut slice));
+    if got == want.packed() && slice == expected {
+        return Ok(());
+    }
+    Err(format!(
+        "{name}, {slots} numbers lent\n  record {}\n  want {}, numbers {numbers:?}\n  got  {}\n  \
+         slice wanted {expected:X?}\n  slice found  {slice:X?}",
+        hex(record),
+        show::answer(want),
+        show::answer(Answer::unpacked(got)),
+    ))
+}
+
+// ---- Lent slices ----
+
+/// A lent slice lies between elements that nobody lent, so that a store outside
+/// it is seen too.
+const SIDE: usize = 4;
+
+/// Known elements, with what is expected at the start of the lent slice.
+fn lent<T: Copy>(len: usize, fill: fn(usize) -> T, start: &[T]) -> Vec<T> {
+    let mut all: Vec<T> = (0..SIDE + len + SIDE).map(fill).collect();
+    all[SIDE..SIDE + start.len()].copy_from_slice(start);
+    all
+}
+
+/// The lent slice itself.
+fn inside<T>(all: &mut [T]) -> &mut [T] {
+    let end = all.len() - SIDE;
+    &mut all[SIDE..end]
+}
+
+/// Elements that no answer is likely to hold, and no two neighbours alike.
+fn byte(at: usize) -> u8 {
+    (0xA5 + 29 * at % 256) as u8
+}
+
+fn word(at: usize) -> u64 {
+    0xA5A5_A5A5_0000_0000 + at as u64
+}

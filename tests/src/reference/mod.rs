@@ -1,0 +1,12 @@
+//! Document 01 in plain Rust, written from its text.
+//!
+//! Wherever 01 speaks of patterns, the patterns are gone through one by one and
+//! each input is looked at. This is slow on purpose: the calls under test work
+//! with masks, and a reference that did the same could share their mistakes.
+
+pub mod answer;
+pub mod fault;
+pub mod pattern;
+pub mod record;
+pub mod summary;
+pub mod writer;

@@ -1,0 +1,121 @@
+//! The archive's calls on function records.
+
+use std::io::Write;
+use std::thread;
+
+use zap_tests::calls::{self, ARCHIVE};
+use zap_tests::cases::{FAULTS, READINGS, SUMMARIES, WRITINGS};
+use zap_tests::records::{parts, Trial, FAULT_EMPTY, FAULT_OF_F, FAULT_OF_G, READ, SUMMARY, WRITE};
+use zap_tests::reference::answer::Answer;
+use zap_tests::show::{self, hex};
+use zap_tests::tally::Tally;
+
+/// Each call gave each code that it can give at least so often.
+const FLOOR: u64 = 100;
+
+#[test]
+fn every_call_answers_as_the_reference() {
+    let tally = run_all_parts();
+    // Not by `print!`, which a passing test keeps to itself: what was compared
+    // belongs in every log.
+    let mut out = std::io::stdout();
+    write!(out, "\n{tally}").expect("standard output takes the tally");
+
+    let mut missing = vec![];
+    missing.extend(tally.missing(READ, &[0, 1, 2, 3, 4, 5, 6, 7, 8], FLOOR));
+    missing.extend(tally.missing(SUMMARY, &[0, 1, 2, 3, 4, 5, 6, 7, 8], FLOOR));
+    missing.extend(tally.missing(WRITE, &[0, 3, 4, 5, 6, 7, 18, 19], FLOOR));
+    missing.extend(tally.missing(FAULT_OF_F, &[5, 6, 7], FLOOR));
+    missing.extend(tally.missing(FAULT_OF_G, &[5, 6, 7], FLOOR));
+    missing.extend(tally.missing(FAULT_EMPTY, &[0, 1, 2, 3, 4, 8], FLOOR));
+    assert!(missing.is_empty(), "too few cases:\n{}", missing.join("\n"));
+}
+
+/// The parts are independent of each other, so each gets a thread and a tally.
+fn run_all_parts() -> Tally {
+    let runs = parts::ALL.map(|part| {
+        thread::spawn(move || {
+            let mut trial = Trial::new(ARCHIVE);
+            part(&mut trial).map(|()| trial.tally)
+        })
+    });
+    let mut tally = Tally::default();
+    for run in runs {
+        match run.join().expect("a part panicked") {
+            Ok(part) => tally.join(&part),
+            Err(difference) => panic!("the archive differs from the reference\n{difference}"),
+        }
+    }
+    tally
+}
+
+// The cases that 01 names, against its own numbers: neither the reference nor
+// the calls have a say in what is expected here.
+
+#[test]
+fn the_readings_of_01() {
+    for case in READINGS {
+        let record = case.record();
+        let mut numbers = [99; 3];
+        let got = calls::read(&record, &mut numbers);
+        let input = format!("{}: {}", case.name, hex(&record));
+        expect(&input, got, case.answer(1));
+        assert_eq!(numbers, case.numbers, "{input}");
+    }
+}
+
+#[test]
+fn the_summaries_of_01() {
+    for case in SUMMARIES {
+        let mut numbers = [99; 3];
+        let got = calls::summary(case.record, &mut numbers);
+        let input = format!("{}: {}", case.name, hex(case.record));
+        expect(&input, got, Answer::accepted(3, case.record.len()));
+        assert_eq!(numbers, case.numbers, "{input}");
+    }
+}
+
+#[test]
+fn the_summaries_of_refused_records() {
+    for case in READINGS.iter().filter(|case| case.code != 0) {
+        let record = case.record();
+        let mut numbers = [99; 3];
+        let got = calls::summary(&record, &mut numbers);
+        let input = format!("{}: {}", case.name, hex(&record));
+        expect(&input, got, case.answer(1));
+        assert_eq!(numbers, [0, 0, 0], "{input}");
+    }
+}
+
+#[test]
+fn the_writings_of_01() {
+    for case in WRITINGS {
+        let (on, off) = (case.on(), case.off());
+        let mut buffer = vec![0xA5; case.room];
+        let got = calls::write(case.n, &on, &off, &mut buffer);
+        let input = format!("{}: n {}, on {}, off {}", case.name, case.n, hex(&on), hex(&off));
+        expect(&input, got, case.answer());
+        let length = if case.code == 0 { case.place } else { 0 };
+        if let Some(written) = case.written {
+            assert_eq!(hex(&buffer[..length]), hex(written), "{input}");
+        }
+        assert!(buffer[length..].iter().all(|&byte| byte == 0xA5), "{input}: {}", hex(&buffer));
+    }
+}
+
+#[test]
+fn the_bytes_at_fault_of_01() {
+    for case in FAULTS {
+        let mut buffer = [0xA5; 2];
+        let length = calls::fault(case.f, case.g, &mut buffer) as usize;
+        let input = format!("{}: f {}, g {}", case.name, hex(case.f), hex(case.g));
+        assert_eq!(length, case.bytes.len(), "{input}");
+        assert_eq!(hex(&buffer[..length]), hex(case.bytes), "{input}");
+        assert!(buffer[length..].iter().all(|&byte| byte == 0xA5), "{input}: {}", hex(&buffer));
+    }
+}
+
+fn expect(input: &str, got: u64, want: Answer) {
+    let (wanted, found) = (show::answer(want), show::answer(Answer::unpacked(got)));
+    assert_eq!(got, want.packed(), "{input}\n  want {wanted}\n  got  {found}");
+}
