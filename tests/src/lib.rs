@@ -1,5 +1,8 @@
 //! Tests of the calls of document 01 against an implementation of its own.
 //!
+//! Run by `cargo test --release --offline`. The archive under test is looked for
+//! in ../target/staticlib, or where ZAP_ARCHIVES says.
+//!
 //! - `reference`: 01 in plain Rust, from its text, by patterns and brute force;
 //! - `calls`: the functions under test, taken from the static archive;
 //! - `random`: a generator with fixed seeds, and the functions made by it;

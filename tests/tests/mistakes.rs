@@ -1,10 +1,10 @@
 //! That the comparison can fail.
 //!
 //! Each mistake below is the reference with one thing wrong, put in the place of
-//! one call. The part named beside it has to notice; the reference itself passes.
+//! one call. The sweep named beside it has to notice; the reference itself passes.
 
 use zap_tests::calls::RecordCalls;
-use zap_tests::records::parts::{self, Part};
+use zap_tests::records::sweeps::{self, Sweep};
 use zap_tests::records::Trial;
 use zap_tests::reference::answer::Answer;
 use zap_tests::reference::fault::{fault, refusal, Owner};
@@ -49,21 +49,21 @@ fn copy(out: &mut [u8], part: &[u8]) -> u64 {
 
 #[test]
 fn the_reference_passes() {
-    for part in [parts::small_functions, parts::pairs_and_slices, parts::small_lists] {
-        assert_eq!(part(&mut Trial::new(RIGHT)), Ok(()));
+    for sweep in [sweeps::small_functions, sweeps::pairs_and_slices, sweeps::small_lists] {
+        assert_eq!(sweep(&mut Trial::new(RIGHT)), Ok(()));
     }
 }
 
 #[test]
 fn every_mistake_is_noticed() {
     let groups = [reader_mistakes(), summary_mistakes(), writer_mistakes(), fault_mistakes()];
-    for (name, calls, part) in groups.concat() {
-        let difference = part(&mut Trial::new(calls)).err();
+    for (name, calls, sweep) in groups.concat() {
+        let difference = sweep(&mut Trial::new(calls)).err();
         assert!(difference.is_some(), "not noticed: {name}");
     }
 }
 
-type Mistake = (&'static str, RecordCalls, Part);
+type Mistake = (&'static str, RecordCalls, Sweep);
 
 // ---- The reader ----
 
@@ -105,7 +105,7 @@ fn reader_mistakes() -> Vec<Mistake> {
                     }
                 })
             }),
-            parts::small_functions,
+            sweeps::small_functions,
         ),
         (
             "5 in any cube before 6 in any",
@@ -122,7 +122,7 @@ fn reader_mistakes() -> Vec<Mistake> {
                     }
                 })
             }),
-            parts::small_functions,
+            sweeps::small_functions,
         ),
         (
             "64 refused",
@@ -132,7 +132,7 @@ fn reader_mistakes() -> Vec<Mistake> {
                     _ => right,
                 })
             }),
-            parts::damaged_full_records,
+            sweeps::damaged_full_records,
         ),
         (
             "65 off cubes accepted",
@@ -146,7 +146,7 @@ fn reader_mistakes() -> Vec<Mistake> {
                     }
                 })
             }),
-            parts::spoiled_records,
+            sweeps::spoiled_records,
         ),
         (
             "cubes before the length",
@@ -159,7 +159,7 @@ fn reader_mistakes() -> Vec<Mistake> {
                     _ => right,
                 })
             }),
-            parts::marked_records,
+            sweeps::marked_records,
         ),
         (
             "header tests wait for five bytes",
@@ -169,7 +169,7 @@ fn reader_mistakes() -> Vec<Mistake> {
                     _ => right,
                 })
             }),
-            parts::short_records,
+            sweeps::short_records,
         ),
         (
             "the last clash",
@@ -185,7 +185,7 @@ fn reader_mistakes() -> Vec<Mistake> {
                     _ => right,
                 })
             }),
-            parts::small_functions,
+            sweeps::small_functions,
         ),
         (
             "a refusal leaves the numbers",
@@ -196,7 +196,7 @@ fn reader_mistakes() -> Vec<Mistake> {
                 }
                 reading.answer.packed()
             }),
-            parts::small_functions,
+            sweeps::small_functions,
         ),
         (
             "two numbers are put into two slots",
@@ -207,7 +207,7 @@ fn reader_mistakes() -> Vec<Mistake> {
                 }
                 reading.answer.packed()
             }),
-            parts::pairs_and_slices,
+            sweeps::pairs_and_slices,
         ),
     ]
 }
@@ -238,7 +238,7 @@ fn summary_mistakes() -> Vec<Mistake> {
                 let in_use = summary(record).in_use;
                 recount(numbers, record, |f| [f.on.len() as u64, f.off.len() as u64, in_use])
             }),
-            parts::small_functions,
+            sweeps::small_functions,
         ),
         (
             "a pattern counted in each cube",
@@ -248,7 +248,7 @@ fn summary_mistakes() -> Vec<Mistake> {
                     [f.on.iter().map(|cube| size(cube, f.n)).sum(), right.off, right.in_use]
                 })
             }),
-            parts::small_functions,
+            sweeps::small_functions,
         ),
         (
             "open patterns read as off",
@@ -256,7 +256,7 @@ fn summary_mistakes() -> Vec<Mistake> {
                 let right = summary(record);
                 recount(numbers, record, |f| [right.on, (1 << f.n) - right.on, right.in_use])
             }),
-            parts::small_functions,
+            sweeps::small_functions,
         ),
         (
             "all inputs in use",
@@ -264,7 +264,7 @@ fn summary_mistakes() -> Vec<Mistake> {
                 let right = summary(record);
                 recount(numbers, record, |f| [right.on, right.off, f.n as u64])
             }),
-            parts::small_functions,
+            sweeps::small_functions,
         ),
         (
             "inputs of the on list alone",
@@ -275,7 +275,7 @@ fn summary_mistakes() -> Vec<Mistake> {
                     [right.on, right.off, (0..INPUTS).filter(named).count() as u64]
                 })
             }),
-            parts::small_functions,
+            sweeps::small_functions,
         ),
     ]
 }
@@ -291,7 +291,7 @@ fn writer_mistakes() -> Vec<Mistake> {
         (
             "the buffer left untouched",
             writer(|n, on, off, out| write(n, on, off, out.len()).0.packed()),
-            parts::small_lists,
+            sweeps::small_lists,
         ),
         (
             "a short buffer filled",
@@ -302,7 +302,7 @@ fn writer_mistakes() -> Vec<Mistake> {
                 }
                 write(n, on, off, out.len()).0.packed()
             }),
-            parts::small_lists,
+            sweeps::small_lists,
         ),
         (
             "the mark written before a refusal",
@@ -312,7 +312,7 @@ fn writer_mistakes() -> Vec<Mistake> {
                 }
                 (RIGHT.write)(n, on, off, out)
             }),
-            parts::small_lists,
+            sweeps::small_lists,
         ),
         (
             "the rest of the buffer cleared",
@@ -322,7 +322,7 @@ fn writer_mistakes() -> Vec<Mistake> {
                 }
                 (RIGHT.write)(n, on, off, out)
             }),
-            parts::small_lists,
+            sweeps::small_lists,
         ),
         (
             "the exact room refused",
@@ -332,7 +332,7 @@ fn writer_mistakes() -> Vec<Mistake> {
                 }
                 _ => (RIGHT.write)(n, on, off, out),
             }),
-            parts::small_lists,
+            sweeps::small_lists,
         ),
         (
             "4 before 19",
@@ -343,7 +343,7 @@ fn writer_mistakes() -> Vec<Mistake> {
                     _ => right.packed(),
                 }
             }),
-            parts::lists_of_records,
+            sweeps::lists_of_records,
         ),
         (
             "65 off cubes accepted",
@@ -354,7 +354,7 @@ fn writer_mistakes() -> Vec<Mistake> {
                     _ => right.packed(),
                 }
             }),
-            parts::lists_of_records,
+            sweeps::lists_of_records,
         ),
         (
             "places of the off list counted from the on list",
@@ -366,12 +366,12 @@ fn writer_mistakes() -> Vec<Mistake> {
                 }
                 .packed()
             }),
-            parts::small_lists,
+            sweeps::small_lists,
         ),
         (
             "the lists changed places",
             writer(|n, on, off, out| (RIGHT.write)(n, off, on, out)),
-            parts::small_lists,
+            sweeps::small_lists,
         ),
     ]
 }
@@ -394,7 +394,7 @@ fn fault_mistakes() -> Vec<Mistake> {
                     _ => copy(out, part.of(f, g)),
                 }
             }),
-            parts::damaged_records,
+            sweeps::damaged_records,
         ),
         (
             "g looked at first",
@@ -402,7 +402,7 @@ fn fault_mistakes() -> Vec<Mistake> {
                 let part = fault(g, f);
                 copy(out, part.of(g, f))
             }),
-            parts::pairs_and_slices,
+            sweeps::pairs_and_slices,
         ),
         (
             "g looked at where f has no cube at fault",
@@ -410,7 +410,7 @@ fn fault_mistakes() -> Vec<Mistake> {
                 part if part.len == 0 => copy(out, fault(g, g).of(g, g)),
                 part => copy(out, part.of(f, g)),
             }),
-            parts::pairs_and_slices,
+            sweeps::pairs_and_slices,
         ),
         (
             "nothing for 7",
@@ -418,7 +418,7 @@ fn fault_mistakes() -> Vec<Mistake> {
                 7 => 0,
                 _ => (RIGHT.fault)(f, g, out),
             }),
-            parts::small_functions,
+            sweeps::small_functions,
         ),
         (
             "P alone",
@@ -429,7 +429,7 @@ fn fault_mistakes() -> Vec<Mistake> {
                     _ => copy(out, part.of(f, g)),
                 }
             }),
-            parts::small_functions,
+            sweeps::small_functions,
         ),
         (
             "half a cube copied where two bytes do not fit",
@@ -440,7 +440,7 @@ fn fault_mistakes() -> Vec<Mistake> {
                 }
                 part.len() as u64
             }),
-            parts::pairs_and_slices,
+            sweeps::pairs_and_slices,
         ),
     ]
 }

@@ -5,7 +5,8 @@ use std::thread;
 
 use zap_tests::calls::{self, ARCHIVE};
 use zap_tests::cases::{FAULTS, READINGS, SUMMARIES, WRITINGS};
-use zap_tests::records::{parts, Trial, FAULT_EMPTY, FAULT_OF_F, FAULT_OF_G, READ, SUMMARY, WRITE};
+use zap_tests::records::{sweeps, Trial};
+use zap_tests::records::{FAULT_EMPTY, FAULT_OF_F, FAULT_OF_G, READ, SUMMARY, WRITE};
 use zap_tests::reference::answer::Answer;
 use zap_tests::show::{self, hex};
 use zap_tests::tally::Tally;
@@ -15,7 +16,7 @@ const FLOOR: u64 = 100;
 
 #[test]
 fn every_call_answers_as_the_reference() {
-    let tally = run_all_parts();
+    let tally = run_all_sweeps();
     // Not by `print!`, which a passing test keeps to itself: what was compared
     // belongs in every log.
     let mut out = std::io::stdout();
@@ -31,26 +32,26 @@ fn every_call_answers_as_the_reference() {
     assert!(missing.is_empty(), "too few cases:\n{}", missing.join("\n"));
 }
 
-/// The parts are independent of each other, so each gets a thread and a tally.
-fn run_all_parts() -> Tally {
-    let runs = parts::ALL.map(|part| {
+/// The sweeps are independent of each other, so each gets a thread and a tally.
+fn run_all_sweeps() -> Tally {
+    let runs = sweeps::ALL.map(|sweep| {
         thread::spawn(move || {
             let mut trial = Trial::new(ARCHIVE);
-            part(&mut trial).map(|()| trial.tally)
+            sweep(&mut trial).map(|()| trial.tally)
         })
     });
     let mut tally = Tally::default();
     for run in runs {
-        match run.join().expect("a part panicked") {
-            Ok(part) => tally.join(&part),
+        match run.join().expect("a sweep panicked") {
+            Ok(seen) => tally.join(&seen),
             Err(difference) => panic!("the archive differs from the reference\n{difference}"),
         }
     }
     tally
 }
 
-// The cases that 01 names, against its own numbers: neither the reference nor
-// the calls have a say in what is expected here.
+// The cases that 01 names, and some worked out by hand from its rules: neither
+// the reference nor the calls have a say in what is expected here.
 
 #[test]
 fn the_readings_of_01() {
@@ -88,7 +89,7 @@ fn the_summaries_of_refused_records() {
 }
 
 #[test]
-fn the_writings_of_01() {
+fn the_writings_by_hand() {
     for case in WRITINGS {
         let (on, off) = (case.on(), case.off());
         let mut buffer = vec![0xA5; case.room];
@@ -104,7 +105,7 @@ fn the_writings_of_01() {
 }
 
 #[test]
-fn the_bytes_at_fault_of_01() {
+fn the_bytes_at_fault_by_hand() {
     for case in FAULTS {
         let mut buffer = [0xA5; 2];
         let length = calls::fault(case.f, case.g, &mut buffer) as usize;

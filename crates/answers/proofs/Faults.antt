@@ -30,6 +30,15 @@ pub by-stop : (who : ℕ) (f : Fault) (next : Answer) → (f .code ≡ 0 → ⊥
 unfolding by
 by-stop who f next e = ap (λ (t : Bool). cond t next (refused (f .code) who (f .place))) (ne-eqb _ _ e)
 
+-- the first of two faults, by cases
+pub then-elim : (R : Fault → Type 0) (f g : Fault) → ((f .code ≡ 0 → ⊥) → R f) → (f .code ≡ 0 → R g) → R (f then g)
+unfolding _then_
+then-elim R f g stop next = go (eqb (f .code) 0) refl
+  where
+    go : (t : Bool) → eqb (f .code) 0 ≡ t → R (cond t g f)
+    go true q = next (eqb-true _ _ q)
+    go false q = stop (eqb-false _ _ q)
+
 -- two in a row are sound only if both are
 pub then-both : (f g : Fault) → (f then g) .code ≡ 0 → (f .code ≡ 0) × (g .code ≡ 0)
 unfolding _then_
@@ -73,3 +82,24 @@ length-sound len end e = go (ltb len end) (ltb end len) refl refl e
 pub length-good : (len : ℕ) → length-fault len len ≡ sound
 unfolding length-fault
 length-good len = simp (le-ltb len len (le-refl len))
+
+-- ---- which codes there can be: what holds of each code that a test gives holds of the fault's
+
+module _ (Q : ℕ → Type 0) where
+  pub then-codes : (f g : Fault) → Q (f .code) → Q (g .code) → Q ((f then g) .code)
+  unfolding _then_
+  then-codes f g p q = elim (eqb (f .code) 0) as (λ t. Q (cond t g f .code)) [ true ↦ q | false ↦ p ]
+
+  pub byte-codes : (s : List ℕ) (k low high code : ℕ) → Q 0 → Q 1 → Q code → Q (byte-fault s k low high code .code)
+  unfolding byte-fault
+  byte-codes s k low high code q₀ q₁ q =
+      elim (leb (length s) k) as (λ t. Q (cond t (fault 1 (length s)) (cond (leb low (getD s k 0) && leb (getD s k 0) high) sound (fault code k)) .code)) [
+        true ↦ q₁ |
+        false ↦ elim (leb low (getD s k 0) && leb (getD s k 0) high) as (λ t. Q (cond t sound (fault code k) .code)) [ true ↦ q₀ | false ↦ q ] ]
+
+  pub length-codes : (len end : ℕ) → Q 0 → Q 1 → Q 8 → Q (length-fault len end .code)
+  unfolding length-fault
+  length-codes len end q₀ q₁ q₈ =
+      elim (ltb len end) as (λ t. Q (cond t (fault 1 len) (cond (ltb end len) (fault 8 end) sound) .code)) [
+        true ↦ q₁ |
+        false ↦ elim (ltb end len) as (λ t. Q (cond t (fault 8 end) sound .code)) [ true ↦ q₈ | false ↦ q₀ ] ]

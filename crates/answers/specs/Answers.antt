@@ -9,7 +9,7 @@ use lib.Seq.{sets}
 use Rattle.answers.specs.declared.Answer.{Answer}
 use Rattle.answers.specs.declared.Fault.{Fault}
 
-infixr 30 _then_
+infixl 30 _then_
 
 -- accepted: code 0, record 0
 abbrev pub accepted : ℕ → ℕ → Answer

@@ -3,7 +3,7 @@ ghost use mathlib.Core.Path.{_≡_};
 ghost use Prim.Native.Nat.{_+_, _≤_};
 ghost use lib.ListN.{length};
 ghost use lib.Seq.{sets};
-ghost use Rattle.answers.specs.Answers.{byte-fault, length-fault, room-fault, by};
+ghost use Rattle.answers.specs.Answers.{_then_, byte-fault, length-fault};
 ghost use Rattle.answers.specs.Answers.{accepted as accepting, refused as refusing};
 
 // What reader, summary, matcher, checker and writer answer.
@@ -60,6 +60,16 @@ pub fn byte_fault(s: &[u8], k: usize, low: u8, high: u8, code: u8) -> Fault
         return Fault { code, place: k };
     }
     Fault { code: 0, place: 0 }
+}
+
+// The fault so far, or else that of byte k.
+pub fn then_byte(so_far: Fault, s: &[u8], k: usize, low: u8, high: u8, code: u8) -> Fault
+    ensures { λ r. ⌜ r ≡ «so_far» then byte-fault (now (s .entry)) k low high code ⌝ }
+{
+    if so_far.code != 0 {
+        return so_far;
+    }
+    byte_fault(s, k, low, high, code)
 }
 
 // The bytes have to end just at `end`.

@@ -4,6 +4,8 @@ use mathlib.Core.Path.{_≡_, refl, sym, ap, ap₂, _∙_}
 use mathlib.Core.Bool.{Bool, true, false, cond, _&&_, _||_, false≢true}
 use mathlib.Core.Logic.{_⊎_, inl, inr, ⊎-elim}
 use native.Mathlib.Nat.{le-refl, le-step, zero-add, add-assoc, le-of-suc-le-suc, not-suc-le-zero, eq-or-lt-of-le}
+use borrow.Author.Tests.{ltb-true, ltb-false}
+use lib.Dec.{ltb}
 use native.Mathlib.Omega.{arith}
 use Rattle.bits.specs.Bits.{every, any, count}
 
@@ -39,6 +41,20 @@ pub or-false : (a : Bool) → a || false ≡ a
 or-false true = refl
 or-false false = refl
 
+pub and-false : (a : Bool) → a && false ≡ false
+and-false true = refl
+and-false false = refl
+
+pub and-comm : (a b : Bool) → a && b ≡ b && a
+and-comm true true = refl
+and-comm true false = refl
+and-comm false true = refl
+and-comm false false = refl
+
+pub and-or : (a b c : Bool) → a && (b || c) ≡ a && b || a && c
+and-or true b c = refl
+and-or false b c = refl
+
 -- two tests are equal where each passes if the other does
 pub same-test : (a b : Bool) → (a ≡ true → b ≡ true) → (b ≡ true → a ≡ true) → a ≡ b
 same-test true b f g = sym (f refl)
@@ -49,6 +65,15 @@ same-test false false f g = refl
 pub decide : (a : Bool) → (a ≡ true) ⊎ (a ≡ false)
 decide true = inl refl
 decide false = inr refl
+
+-- a number is below another, or at least it
+pub below-or-not : (a b : ℕ) → (a < b) ⊎ (b ≤ a)
+below-or-not a b = ⊎-elim (λ e. inl (ltb-true a b e)) (λ e. inr (ltb-false a b e)) (decide (ltb a b))
+
+-- a test that cannot pass fails
+pub not-passed : (a : Bool) → (a ≡ true → ⊥) → a ≡ false
+not-passed true f = absurd (f refl)
+not-passed false f = refl
 
 -- ---- below a bound
 
@@ -86,6 +111,9 @@ module _ (p : ℕ → Bool) where
       (λ (l : k < n). or-left (p n) (any-if n k l e))
       (below-suc h)
 
+  pub any-none : (n : ℕ) → ((k : ℕ) → k < n → p k ≡ true → ⊥) → any n p ≡ false
+  any-none n f = not-passed (any n p) (λ e. let w = any-at n e in f (w .0) (w .1) (w .2))
+
   -- no more numbers pass than there are
   pub count-le : (n : ℕ) → count n p ≤ n
   unfolding count
@@ -98,8 +126,25 @@ module _ (p : ℕ → Bool) where
   count-low zero = omega arith
   count-low (suc n) = ap (λ (c : ℕ). c + cond (p (suc n)) 1 0) (count-low n) ∙ add-assoc (cond (p 0) 1 0) (count n (λ k. p (suc k))) (cond (p (suc n)) 1 0)
 
--- tests that say the same below n are passed alike
+pub any-never : (n : ℕ) → any n (λ k. false) ≡ false
+any-never n = any-none (λ k. false) n (λ k h e. false≢true e)
+
 module _ (p q : ℕ → Bool) where
+  -- one of two tests passes somewhere exactly when one of them does
+  pub any-or : (n : ℕ) → any n p || any n q ≡ any n (λ k. p k || q k)
+  any-or n =
+      same-test _ _
+      (λ e.
+        ⊎-elim (λ (h : any n p ≡ true). let w = any-at p n h in any-if (λ k. p k || q k) n (w .0) (w .1) (or-left (q (w .0)) (w .2)))
+        (λ (h : any n q ≡ true). let w = any-at q n h in any-if (λ k. p k || q k) n (w .0) (w .1) (or-right (p (w .0)) (w .2)))
+        (either (any n p) (any n q) e))
+      (λ e.
+        let w = any-at (λ k. p k || q k) n e in
+        ⊎-elim (λ (h : p (w .0) ≡ true). or-left (any n q) (any-if p n (w .0) (w .1) h))
+        (λ (h : q (w .0) ≡ true). or-right (any n p) (any-if q n (w .0) (w .1) h))
+        (either (p (w .0)) (q (w .0)) (w .2)))
+
+  -- tests that say the same below n are passed alike
   pub every-same : (n : ℕ) → ((k : ℕ) → k < n → p k ≡ q k) → every n p ≡ every n q
   every-same n f =
       same-test (every n p) (every n q)

@@ -2,18 +2,19 @@
 -- The idea: bit i of x is the lowest bit of x / 2^i, and every operator of the language goes through a shift.
 use Prim.Native.Nat.{ℕ, zero, suc, _+_, _-_, _*_, _/_, _%_, _^_, _≤_, _<_, suc-le-suc, min, max}
 use mathlib.Core.Path.{_≡_, refl, sym, ap, ap₂, _∙_, subst, subst₂}
-use mathlib.Core.Bool.{Bool, true, false, cond, _||_}
+use mathlib.Core.Bool.{Bool, true, false, cond, not, _&&_, _||_, false≢true}
 use mathlib.Core.Logic.{_⊎_, inl, inr, ⊎-elim}
-use native.Mathlib.Nat.{le-trans, le-antisymm, le-of-eq, le-of-suc-le-suc, not-suc-le-zero, mod-lt, zero-lt-suc, zero-div, div-eq-of-lt, div-one, zero-max, max-eq-left}
+use native.Mathlib.Nat.{le-trans, le-antisymm, le-of-eq, le-of-suc-le-suc, not-suc-le-zero, mod-lt, zero-lt-suc, zero-div, div-eq-of-lt, div-one, zero-min, zero-max, max-eq-left}
 use native.Mathlib.Numerals.{add-one}
 use native.Mathlib.Omega.{arith}
+use borrow.Author.Tests.{eq-eqb, eqb-true, eqb-false}
 use lib.Bits.{bitAnd, bitOr, bitXor, differ, and-step, or-step, xor-step, and-shr, or-shr, xor-shr}
 use lib.Dec.{eqb}
 use lib.Arith.{lt-one}
 use lib.Pow.{pow-pos, pow-mono, shr-lt, shr-shr}
 use lib.Count.{ones, ones-step}
-use Rattle.bits.specs.Bits.{bit, has, count}
-use Rattle.bits.proofs.Below.{count-low, count-same}
+use Rattle.bits.specs.Bits.{bit, has, any, count}
+use Rattle.bits.proofs.Below.{any-if, any-none, decide, count-low, count-same}
 
 -- a bit is 0 or 1
 pub bit-le : (i x : ℕ) → bit i x ≤ 1
@@ -55,6 +56,16 @@ has-or a b i = ap (λ (n : ℕ). eqb n 1) (bit-or i a b) ∙ go (bit i a) (bit i
     go (suc zero) y h k = ap (λ (n : ℕ). eqb n 1) (max-eq-left k)
     go (suc (suc x)) y h k = absurd (not-suc-le-zero (le-of-suc-le-suc h))
 
+pub has-and : (a b i : ℕ) → has (bitAnd a b) i ≡ has a i && has b i
+has-and a b i = ap (λ (n : ℕ). eqb n 1) (bit-and i a b) ∙ go (bit i a) (bit i b) (bit-le i a) (bit-le i b)
+  where
+    go : (x y : ℕ) → x ≤ 1 → y ≤ 1 → eqb (min x y) 1 ≡ eqb x 1 && eqb y 1
+    go zero y h k = ap (λ (n : ℕ). eqb n 1) (zero-min y)
+    go (suc zero) zero h k = refl
+    go (suc zero) (suc zero) h k = refl
+    go (suc zero) (suc (suc y)) h k = absurd (not-suc-le-zero (le-of-suc-le-suc k))
+    go (suc (suc x)) y h k = absurd (not-suc-le-zero (le-of-suc-le-suc h))
+
 pub bit-shr : (i k x : ℕ) → bit i (x / 2 ^ k) ≡ bit (k + i) x
 unfolding bit
 bit-shr i k x = ap (λ (n : ℕ). n % 2) (shr-shr x k i)
@@ -79,6 +90,23 @@ bits-eq k x y h g f =
 
 pub bits-zero : (k x : ℕ) → x < 2 ^ k → ((i : ℕ) → i < k → bit i x ≡ 0) → x ≡ 0
 bits-zero k x h f = bits-eq k x 0 h (pow-pos k) (λ i l. f i l ∙ sym (bit-zero i))
+
+-- a bit that is not 1 is 0
+pub bit-not-one : (i x : ℕ) → (has x i ≡ true → ⊥) → bit i x ≡ 0
+bit-not-one i x f =
+    let other : bit i x ≡ 1 → ⊥ = λ e. f (eq-eqb _ _ e) in
+    omega (arith, bit-le i x)
+
+-- some bit is 1 exactly in the numbers above 0
+pub any-bit : (k x : ℕ) → x < 2 ^ k → any k (has x) ≡ not (eqb x 0)
+any-bit k x h = go (eqb x 0) refl
+  where
+    go : (t : Bool) → eqb x 0 ≡ t → any k (has x) ≡ not t
+    go true e = any-none (has x) k (λ i l q. false≢true (sym (has-zero i) ∙ ap (λ (n : ℕ). has n i) (sym (eqb-true _ _ e)) ∙ q))
+    go false e =
+        ⊎-elim (λ q. q)
+        (λ (q : any k (has x) ≡ false). absurd (eqb-false _ _ e (bits-zero k x h (λ i l. bit-not-one i x (λ p. false≢true (sym q ∙ any-if (has x) k i l p))))))
+        (decide (any k (has x)))
 
 -- ---- the number of ones
 

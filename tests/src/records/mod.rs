@@ -2,9 +2,9 @@
 //!
 //! A `Trial` has the calls under test. Each of its methods makes one call and
 //! compares every number returned and every element of a lent slice with what
-//! the reference says. `parts` has the inputs.
+//! the reference says. `sweeps` has the inputs.
 
-pub mod parts;
+pub mod sweeps;
 
 use crate::calls::RecordCalls;
 use crate::reference::answer::Answer;

@@ -1,4 +1,4 @@
-//! The inputs of the comparison, part by part.
+//! The inputs of the comparison, sweep by sweep.
 
 use super::{Outcome, Trial};
 use crate::cases::NAMED;
@@ -7,11 +7,11 @@ use crate::reference::pattern::Function;
 use crate::reference::record::{bytes, record, CUBES, MARK};
 use crate::show::hex;
 
-/// A part makes its inputs and lets the trial compare them.
-pub type Part = fn(&mut Trial) -> Outcome;
+/// A sweep makes its inputs and lets the trial compare them.
+pub type Sweep = fn(&mut Trial) -> Outcome;
 
-/// All parts, the longest first.
-pub const ALL: [Part; 9] = [
+/// All sweeps, the longest first.
+pub const ALL: [Sweep; 9] = [
     damaged_full_records,
     damaged_records,
     short_records,

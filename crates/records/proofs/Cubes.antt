@@ -1,0 +1,118 @@
+-- Lists of cubes without a fault, and what code 7 says on patterns.
+use Prim.Native.Nat.{ℕ, _+_, _*_, _^_, _≤_, _<_}
+use mathlib.Core.Path.{_≡_, refl, sym, ap, ap₂, _∙_, subst}
+use mathlib.Core.Bool.{Bool, true, false, cond, _&&_, _||_}
+use mathlib.Core.List.{List, [], _∷_}
+use borrow.Author.Tests.{eq-eqb, eqb-true, eqb-false}
+use native.Mathlib.Omega.{arith}
+use lib.Dec.{eqb}
+use lib.ListN.{length, getD, take, drop}
+use lib.Seq.{take-add, drop-at, drop-drop, getD-drop, length-take-le}
+use Rattle.bits.specs.Bits.{any}
+use Rattle.bits.proofs.Below.{any-same, and-comm}
+use Rattle.cubes.specs.Cubes.{cube-holds, cubes-share, some-cube, some-holds}
+use Rattle.cubes.proofs.Masks.{share-masks}
+use Rattle.cubes.proofs.Lists.{Each, each-all, each-map, each-bytes, each-take, each-drop, some-same, some-any, some-and}
+use Rattle.answers.specs.declared.Fault.{Fault}
+use Rattle.answers.specs.Answers.{fault, sound}
+use Rattle.records.specs.Records.{inputs, on-count, off-count, cubes-at, off-at, on-list, off-list, cube-code, clash-code, first-fault, cubes-fault, clash-fault}
+use Rattle.records.proofs.Frame.{Framed}
+use Rattle.records.proofs.Codes.{Clean, code-clean}
+
+-- ---- a list has no fault exactly when each cube has none
+
+module _ (code : ℕ → ℕ → ℕ) where
+  pub first-each : (l : List ℕ) (at : ℕ) → first-fault code l at .code ≡ 0 → Each (λ P N. code P N ≡ 0) l
+  unfolding first-fault Each
+  first-each [] at e = tt
+  first-each (P ∷ []) at e = tt
+  first-each (P ∷ N ∷ l) at e = go (eqb (code P N) 0) refl e (first-each l (at + 2))
+    where
+      go : (t : Bool) → eqb (code P N) 0 ≡ t → cond t (first-fault code l (at + 2)) (fault (code P N) at) .code ≡ 0
+        → (first-fault code l (at + 2) .code ≡ 0 → Each (λ P N. code P N ≡ 0) l) → (code P N ≡ 0) × Each (λ P N. code P N ≡ 0) l
+      go true q h rest = (eqb-true _ _ q, rest h)
+      go false q h rest = absurd (eqb-false _ _ q h)
+
+  pub each-first : (l : List ℕ) (at : ℕ) → Each (λ P N. code P N ≡ 0) l → first-fault code l at ≡ sound
+  unfolding first-fault Each
+  each-first [] at e = refl
+  each-first (P ∷ []) at e = refl
+  each-first (P ∷ N ∷ l) at e = simp (eq-eqb _ _ (e .0)) (each-first l (at + 2) (e .1))
+
+-- codes that agree at each cube give the same fault
+pub first-same : (code code′ : ℕ → ℕ → ℕ) (l : List ℕ) (at : ℕ) → Each (λ P N. code P N ≡ code′ P N) l → first-fault code l at ≡ first-fault code′ l at
+unfolding first-fault Each
+first-same code code′ [] at e = refl
+first-same code code′ (P ∷ []) at e = refl
+first-same code code′ (P ∷ N ∷ l) at e =
+    ap₂ (λ (k : ℕ) (f : Fault). cond (eqb k 0) f (fault k at)) (e .0) (first-same code code′ l (at + 2) (e .1))
+
+-- ---- the width of the shared-pattern test: for clean cubes of n inputs, patterns of n inputs and of eight say the same
+
+abbrev pub CleanList : ℕ → List ℕ → Type 0
+CleanList n l = Each (λ P N. (P < 2 ^ 8) × (N < 2 ^ 8) × (P < 2 ^ n)) l
+
+pub clean-list : (n : ℕ) (l : List ℕ) (at : ℕ) → ((i : ℕ) → getD l i 0 < 2 ^ 8) → first-fault (cube-code n) l at .code ≡ 0 → CleanList n l
+clean-list n l at b e =
+    each-map _ _ (λ P N h. (h .0, h .1, code-clean n P N (h .0) (h .1) (h .2) .pos)) l (each-bytes _ l b (first-each (cube-code n) l at e))
+
+pub clash-width : (n : ℕ) (on off : List ℕ) (at : ℕ) → CleanList n on → CleanList n off → first-fault (clash-code n off) on at ≡ first-fault (clash-code 8 off) on at
+unfolding clash-code
+clash-width n on off at c d =
+    first-same _ _ on at
+    (each-map _ _
+      (λ P N p.
+        ap {B = ℕ} (λ (t : Bool). cond t 7 0)
+        (some-same _ _ off
+        (each-map _ _ (λ P′ N′ q. share-masks P N P′ N′ n (p .2) (q .2) (p .1) (q .1) ∙ sym (share-masks P N P′ N′ 8 (p .0) (q .0) (p .1) (q .1))) off d)))
+      on c)
+
+-- ---- the lists of a framed record whose cubes have no fault
+
+-- the list's elements are bytes
+abbrev pub Bytes : List ℕ → Type 0
+Bytes l = (i : ℕ) → getD l i 0 < 2 ^ 8
+
+module _ (s : List ℕ) (framed : Framed s) where
+  -- what stands before the off list
+  pub front-long : length (take (off-at s) s) ≡ off-at s
+  front-long = length-take-le (off-at s) s (omega arith)
+
+  -- the on list is what stands between the cubes' start and the off list's
+  pub on-front : drop (cubes-at s) (take (off-at s) s) ≡ on-list s
+  unfolding on-list
+  on-front =
+      ap (drop 5) (take-add 5 (2 * on-count s) s)
+      ∙ drop-at (take 5 s) (take (2 * on-count s) (drop 5 s)) 5 (length-take-le 5 s (omega arith))
+
+  module _ (bytes : Bytes s) (cubes : cubes-fault s .code ≡ 0) where
+    all-clean : CleanList (inputs s) (drop 5 s)
+    all-clean = clean-list (inputs s) (drop 5 s) 5 (λ i. subst (λ (b : ℕ). b < 2 ^ 8) (sym (getD-drop 5 s i 0)) (bytes (5 + i))) cubes
+
+    on-clean : CleanList (inputs s) (on-list s)
+    unfolding on-list
+    on-clean = each-take _ (on-count s) (drop 5 s) all-clean
+
+    off-clean : CleanList (inputs s) (off-list s)
+    unfolding off-list
+    off-clean =
+        each-take _ (off-count s) (drop (off-at s) s)
+        (subst (CleanList (inputs s)) (drop-drop (2 * on-count s) 5 s) (each-drop _ (on-count s) (drop 5 s) all-clean))
+
+    -- the code tests eight inputs, and a part of the record that ends at the off list
+    pub clash-by-code : first-fault (clash-code 8 (off-list s)) (drop (cubes-at s) (take (off-at s) s)) (cubes-at s) ≡ clash-fault s
+    clash-by-code =
+        ap (λ (on : List ℕ). first-fault (clash-code 8 (off-list s)) on 5) on-front
+        ∙ sym (clash-width (inputs s) (on-list s) (off-list s) 5 on-clean off-clean)
+
+-- ---- code 7: some on cube shares a pattern with some off cube exactly when some pattern is both on and off
+
+pub clash-means : (n : ℕ) (on off : List ℕ) → some-cube (λ P N. some-cube (cubes-share n P N) off) on ≡ any (2 ^ n) (λ x. some-holds on x && some-holds off x)
+unfolding cubes-share
+clash-means n on off =
+    some-same _ _ on (each-all _ inner on)
+    ∙ some-any (2 ^ n) (λ P N x. cube-holds P N x && some-holds off x) on
+    ∙ any-same _ _ (2 ^ n) (λ x h. some-same _ _ on (each-all _ (λ P N. and-comm (cube-holds P N x) (some-holds off x)) on) ∙ some-and (some-holds off x) _ on ∙ and-comm (some-holds off x) (some-holds on x))
+  where
+    inner : (P N : ℕ) → some-cube (λ P′ N′. any (2 ^ n) (λ x. cube-holds P N x && cube-holds P′ N′ x)) off ≡ any (2 ^ n) (λ x. cube-holds P N x && some-holds off x)
+    inner P N = some-any (2 ^ n) (λ P′ N′ x. cube-holds P N x && cube-holds P′ N′ x) off ∙ any-same _ _ (2 ^ n) (λ x h. some-and (cube-holds P N x) (λ P′ N′. cube-holds P′ N′ x) off)

@@ -1,0 +1,69 @@
+-- What a sound header says of a record, and that a record of that form has a sound header.
+use Prim.Native.Nat.{ℕ}
+use mathlib.Core.Path.{_≡_, refl, sym, ap, _∙_}
+use mathlib.Core.List.{List}
+use lib.ListN.{length, drop}
+use native.Mathlib.Omega.{arith}
+use Rattle.answers.specs.declared.Fault.{Fault}
+use Rattle.answers.specs.Answers.{sound, _then_, byte-fault, length-fault}
+use Rattle.answers.proofs.Faults.{Byte, byte-sound, byte-good, length-sound, length-good, then-both, then-next, then-stop}
+use Rattle.records.specs.Records.{record-end, header-bytes, header-fault, cubes-fault, clash-fault, record-fault}
+
+-- the header bytes are there, and each is in its range
+pub record Header (s : List ℕ) : Type 0 where
+  pub mark₀ : Byte s 0 0x46 0x46
+  pub mark₁ : Byte s 1 0x4E 0x4E
+  pub n-byte : Byte s 2 1 8
+  pub a-byte : Byte s 3 0 64
+  pub b-byte : Byte s 4 0 64
+
+-- and the record ends where they say
+pub record Framed (s : List ℕ) : Type 0 where
+  pub header : Header s
+  pub long : record-end s ≡ length s
+
+pub bytes-sound : (s : List ℕ) → header-bytes s .code ≡ 0 → Header s
+unfolding header-bytes
+bytes-sound s e =
+    let b₄ = then-both _ _ e in
+    let b₃ = then-both _ _ (b₄ .0) in
+    let b₂ = then-both _ _ (b₃ .0) in
+    let b₁ = then-both _ _ (b₂ .0) in
+    record {
+      mark₀ = byte-sound s 0 0x46 0x46 1 (b₁ .0);
+      mark₁ = byte-sound s 1 0x4E 0x4E 1 (b₁ .1);
+      n-byte = byte-sound s 2 1 8 2 (b₂ .1);
+      a-byte = byte-sound s 3 0 64 3 (b₃ .1);
+      b-byte = byte-sound s 4 0 64 3 (b₄ .1) }
+
+pub header-sound : (s : List ℕ) → header-fault s .code ≡ 0 → Framed s
+unfolding header-fault
+header-sound s e =
+    let parts = then-both _ _ e in
+    record { header = bytes-sound s (parts .0); long = sym (length-sound _ _ (parts .1)) }
+
+-- a sound record: its frame, its cubes one by one, and its on cubes against its off cubes
+pub record Sound (s : List ℕ) : Type 0 where
+  pub framed : Framed s
+  pub cubes : cubes-fault s .code ≡ 0
+  pub apart : clash-fault s .code ≡ 0
+
+pub record-sound : (s : List ℕ) → record-fault s .code ≡ 0 → Sound s
+unfolding record-fault
+record-sound s e =
+    let clash = then-both _ _ e in
+    let parts = then-both _ _ (clash .0) in
+    record { framed = header-sound s (parts .0); cubes = parts .1; apart = clash .1 }
+
+-- the three ways in which the reading ends
+pub ends-at-header : (s : List ℕ) → (header-fault s .code ≡ 0 → ⊥) → record-fault s ≡ header-fault s
+unfolding record-fault
+ends-at-header s h = ap (λ (f : Fault). f then clash-fault s) (then-stop _ _ h) ∙ then-stop _ _ h
+
+pub ends-at-cubes : (s : List ℕ) → header-fault s .code ≡ 0 → (cubes-fault s .code ≡ 0 → ⊥) → record-fault s ≡ cubes-fault s
+unfolding record-fault
+ends-at-cubes s h c = ap (λ (f : Fault). f then clash-fault s) (then-next _ _ h) ∙ then-stop _ _ c
+
+pub ends-at-clash : (s : List ℕ) → header-fault s .code ≡ 0 → cubes-fault s .code ≡ 0 → record-fault s ≡ clash-fault s
+unfolding record-fault
+ends-at-clash s h c = ap (λ (f : Fault). f then clash-fault s) (then-next _ _ h) ∙ then-next _ _ c

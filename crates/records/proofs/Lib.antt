@@ -1,0 +1,5 @@
+pub mod Codes
+pub mod Walks
+pub mod Frame
+pub mod Cubes
+pub mod Places
