@@ -10,7 +10,7 @@ use lib.Dec.{leb, ltb, eqb}
 use lib.ListN.{length, getD}
 use Rattle.answers.specs.declared.Fault.{Fault}
 use Rattle.answers.specs.declared.Answer.{Answer}
-use Rattle.answers.specs.Answers.{fault, sound, refused, _then_, by, byte-fault, length-fault}
+use Rattle.answers.specs.Answers.{fault, sound, refused, _then_, _or-else_, by, byte-fault, length-fault}
 use Rattle.bits.proofs.Below.{both-left, both-right}
 
 -- where the first is sound, the next decides; where it is not, it does
@@ -22,13 +22,25 @@ pub then-stop : (f g : Fault) → (f .code ≡ 0 → ⊥) → f then g ≡ f
 unfolding _then_
 then-stop f g e = ap (λ (t : Bool). cond t g f) (ne-eqb _ _ e)
 
-pub by-next : (who : ℕ) (f : Fault) (next : Answer) → f .code ≡ 0 → by who f next ≡ next
+-- the same of answers, as a function meets them: f is the fault that it found, and g what the definition says
+pub by-next : (who : ℕ) (f g : Fault) (a next : Answer) → f ≡ g → f .code ≡ 0 → a ≡ next → a ≡ by who g next
 unfolding by
-by-next who f next e = ap (λ (t : Bool). cond t next (refused (f .code) who (f .place))) (eq-eqb _ _ e)
+by-next who f g a next e z h =
+    h ∙ sym (ap (λ (t : Bool). cond t next (refused (g .code) who (g .place))) (eq-eqb _ _ (ap (λ (f : Fault). f .code) (sym e) ∙ z)))
 
-pub by-stop : (who : ℕ) (f : Fault) (next : Answer) → (f .code ≡ 0 → ⊥) → by who f next ≡ refused (f .code) who (f .place)
+pub by-stop : (who : ℕ) (f g : Fault) (a next : Answer) → f ≡ g → (f .code ≡ 0 → ⊥) → a ≡ refused (f .code) who (f .place) → a ≡ by who g next
 unfolding by
-by-stop who f next e = ap (λ (t : Bool). cond t next (refused (f .code) who (f .place))) (ne-eqb _ _ e)
+by-stop who f g a next e z h =
+    h ∙ ap (λ (f : Fault). refused (f .code) who (f .place)) e
+    ∙ sym (ap (λ (t : Bool). cond t next (refused (g .code) who (g .place))) (ne-eqb _ _ (λ z′. z (ap (λ (f : Fault). f .code) e ∙ z′))))
+
+pub or-else-next : (a b : Answer) → a .code ≡ 0 → a or-else b ≡ b
+unfolding _or-else_
+or-else-next a b e = ap (λ (t : Bool). cond t b a) (eq-eqb _ _ e)
+
+pub or-else-stop : (a b : Answer) → (a .code ≡ 0 → ⊥) → a or-else b ≡ a
+unfolding _or-else_
+or-else-stop a b e = ap (λ (t : Bool). cond t b a) (ne-eqb _ _ e)
 
 -- the first of two faults, by cases
 pub then-elim : (R : Fault → Type 0) (f g : Fault) → ((f .code ≡ 0 → ⊥) → R f) → (f .code ≡ 0 → R g) → R (f then g)

@@ -2,10 +2,14 @@
 use Prim.Native.Nat.{ℕ, zero, suc, _+_, _<_}
 use mathlib.Core.Path.{_≡_, refl, sym, ap, ap₂, _∙_}
 use mathlib.Core.List.{List, [], _∷_, _++_}
+use mathlib.Core.Bool.{Bool, cond}
+use borrow.Author.Tests.{eq-eqb, ne-eqb}
 use native.Mathlib.Nat.{add-zero, add-suc, suc-add}
 use native.Mathlib.Numerals.{add-one}
 use lib.ListN.{length, getD, drop, set}
 use lib.Seq.{sets, drop-cons}
+use Rattle.answers.specs.declared.Answer.{Answer}
+use Rattle.answers.specs.Answers.{buffer-after, Delivered}
 
 -- one byte of the run is stored, and the others come after it
 pub store-next : (out bytes : List ℕ) (at i : ℕ) → i < length bytes
@@ -18,3 +22,26 @@ sets-join l [] b i = ap (λ (k : ℕ). sets l k b) (add-zero i)
 sets-join l (x ∷ a) b i =
     ap (λ (k : ℕ). sets (sets (set l i x) (suc i) a) k b) (add-suc i (length a) ∙ sym (suc-add i (length a)))
     ∙ sets-join (set l i x) a b (suc i)
+
+-- a lent buffer after an accepted answer, and after a refusal
+pub after-accepted : (a : Answer) (bytes before : List ℕ) → a .code ≡ 0 → buffer-after a bytes before ≡ sets before 0 bytes
+unfolding buffer-after
+after-accepted a bytes before e = ap (λ (t : Bool). cond t (sets before 0 bytes) before) (eq-eqb _ _ e)
+
+pub after-refused : (a : Answer) (bytes before : List ℕ) → (a .code ≡ 0 → ⊥) → buffer-after a bytes before ≡ before
+unfolding buffer-after
+after-refused a bytes before e = ap (λ (t : Bool). cond t (sets before 0 bytes) before) (ne-eqb _ _ e)
+
+-- any two results that it allows are equal
+pub delivered-settled : (a : Answer) (bytes before after after′ : List ℕ) (r r′ : Answer)
+  → Delivered a bytes before after r → Delivered a bytes before after′ r′ → (r ≡ r′) × (after ≡ after′)
+delivered-settled a bytes before after after′ r r′ d e = (d .returned ∙ sym (e .returned), d .buffer ∙ sym (e .buffer))
+
+-- as a function meets it: a refusal leaves the buffer, and an accepted answer has stored the bytes
+pub delivered-refusal : (a : Answer) (bytes before : List ℕ) (r : Answer) → r ≡ a → (r .code ≡ 0 → ⊥) → Delivered a bytes before before r
+delivered-refusal a bytes before r e bad =
+    record { returned = e; buffer = sym (after-refused a bytes before (λ z. bad (ap (λ (x : Answer). x .code) e ∙ z))) }
+
+pub delivered-bytes : (a : Answer) (bytes before after : List ℕ) (r : Answer) → r ≡ a → r .code ≡ 0 → after ≡ sets before 0 bytes → Delivered a bytes before after r
+delivered-bytes a bytes before after r e good stored =
+    record { returned = e; buffer = stored ∙ sym (after-accepted a bytes before (ap (λ (x : Answer). x .code) (sym e) ∙ good)) }

@@ -1,6 +1,7 @@
 -- The numbers of an answer, faults in bytes that are read one after the other, and a lent buffer after an answer.
 -- Document 01, "Numbers returned".
 use Prim.Native.Nat.{ℕ, _+_, _%_, _*_}
+use mathlib.Core.Path.{_≡_}
 use mathlib.Core.Bool.{Bool, true, false, cond, _&&_}
 use mathlib.Core.List.{List, [], _∷_}
 use lib.Dec.{leb, ltb, eqb}
@@ -10,6 +11,7 @@ use Rattle.answers.specs.declared.Answer.{Answer}
 use Rattle.answers.specs.declared.Fault.{Fault}
 
 infixl 30 _then_
+infixr 30 _or-else_
 
 -- accepted: code 0, record 0
 abbrev pub accepted : ℕ → ℕ → Answer
@@ -37,6 +39,10 @@ f then g = cond (is-sound f) g f
 unfoldable pub by : ℕ → Fault → Answer → Answer
 by who f next = cond (is-sound f) next (refused (f .code) who (f .place))
 
+-- the next answer, unless this one is a refusal
+unfoldable pub _or-else_ : Answer → Answer → Answer
+a or-else b = cond (eqb (a .code) 0) b a
+
 -- byte k of a header: missing gives 1 at the length, before any test of it; outside low to high gives the code
 unfoldable pub byte-fault : List ℕ → ℕ → ℕ → ℕ → ℕ → Fault
 byte-fault s k low high code =
@@ -46,13 +52,14 @@ byte-fault s k low high code =
 unfoldable pub length-fault : ℕ → ℕ → Fault
 length-fault len end = cond (ltb len end) (fault 1 len) (cond (ltb end len) (fault 8 end) sound)
 
--- the answer needs `needed` bytes of the output buffer, which has `room`
-unfoldable pub room-fault : ℕ → ℕ → Fault
-room-fault room needed = cond (ltb room needed) (fault 18 needed) sound
-
 -- a lent buffer afterwards: the bytes at its start and nothing after them if accepted, else unchanged
 unfoldable pub buffer-after : Answer → List ℕ → List ℕ → List ℕ
 buffer-after answer bytes before = cond (eqb (answer .code) 0) (sets before 0 bytes) before
+
+-- what a call with a lent buffer leaves: the answer, and the buffer afterwards
+pub record Delivered (answer : Answer) (bytes before after : List ℕ) (r : Answer) : Type 0 where
+  pub returned : r ≡ answer
+  pub buffer : after ≡ buffer-after answer bytes before
 
 -- one number for a host: code + 256·kind + 65,536·record + 16,777,216·place
 unfoldable pub packed : Answer → ℕ

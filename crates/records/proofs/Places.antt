@@ -93,3 +93,7 @@ cubes-place s =
 
     unsound : (f : Fault) → is-cubes f ≡ true → f .code ≡ 0 → ⊥
     unsound f e z = false≢true (sym (ap of-cubes z) ∙ e)
+
+-- a sound record has no cube at fault
+pub sound-no-cube : (f : Fault) → f .code ≡ 0 → is-cubes f ≡ false
+sound-no-cube f z = ap of-cubes z

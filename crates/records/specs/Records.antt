@@ -127,8 +127,8 @@ bytes-at-fault f g =
 
 unfoldable pub memory-at-fault : List ℕ → List ℕ → ℕ × ℕ → ℕ × ℕ → ℕ × ℕ
 memory-at-fault f g at-f at-g =
-    cond (faulty-f f) (at-f .0, at-f .1 + record-fault f .place)
-    (cond (faulty-g f g) (at-g .0, at-g .1 + record-fault g .place) at-f)
+    cond (faulty-f f) (at-f .0, record-fault f .place + at-f .1)
+    (cond (faulty-g f g) (at-g .0, record-fault g .place + at-g .1) at-f)
 
 -- what the call hands back, as memory and as bytes
 pub record AtFault (f g : List ℕ) (at-f at-g at-r : ℕ × ℕ) (r : List ℕ) : Type 0 where

@@ -1,0 +1,64 @@
+-- What the writer's first tests say, and the length of the record.
+use Prim.Native.Nat.{ℕ, suc, _+_, _%_, _≤_, _<_}
+use mathlib.Core.Path.{_≡_, refl, sym, ap, _∙_}
+use mathlib.Core.Bool.{Bool, true, false, cond}
+use mathlib.Core.List.{List, [], _∷_, _++_}
+use borrow.Author.Tests.{lt-ltb, le-ltb, ltb-false, eqb-false}
+use native.Mathlib.Omega.{arith}
+use lib.Dec.{ltb, eqb}
+use lib.ListN.{length, length-append}
+use lib.Seq.{sets}
+use Rattle.answers.specs.declared.Answer.{Answer}
+use Rattle.answers.specs.Answers.{accepted, refused}
+use Rattle.answers.proofs.Stores.{sets-join}
+use Rattle.writer.specs.Writing.{record-bytes, sizes, fits}
+
+pub record Sized (n : ℕ) (on off : List ℕ) : Type 0 where
+  pub least : 1 ≤ n
+  pub most : n ≤ 8
+  pub on-even : length on % 2 ≡ 0
+  pub off-even : length off % 2 ≡ 0
+  pub on-few : length on ≤ 128
+  pub off-few : length off ≤ 128
+
+pub sizes-sound : (n : ℕ) (on off : List ℕ) → sizes n on off .code ≡ 0 → Sized n on off
+unfolding sizes
+sizes-sound n on off e =
+    let s₁ = passed (ltb n 1) 2 0 0 _ e in
+    let s₂ = passed (ltb 8 n) 2 0 0 _ (s₁ .1) in
+    let s₃ = passed (eqb (length on % 2) 1) 18 1 (length on) _ (s₂ .1) in
+    let s₄ = passed (eqb (length off % 2) 1) 18 2 (length off) _ (s₃ .1) in
+    let s₅ = passed (ltb 128 (length on)) 3 1 128 _ (s₄ .1) in
+    let s₆ = passed (ltb 128 (length off)) 3 2 128 _ (s₅ .1) in
+    let on-odd : length on % 2 ≡ 1 → ⊥ = eqb-false _ _ (s₃ .0) in
+    let off-odd : length off % 2 ≡ 1 → ⊥ = eqb-false _ _ (s₄ .0) in
+    record {
+      least = ltb-false _ _ (s₁ .0);
+      most = ltb-false _ _ (s₂ .0);
+      on-even = omega arith;
+      off-even = omega arith;
+      on-few = ltb-false _ _ (s₅ .0);
+      off-few = ltb-false _ _ (s₆ .0) }
+  where
+    passed : (t : Bool) (code who place : ℕ) (next : Answer) → cond t (refused (suc code) who place) next .code ≡ 0 → (t ≡ false) × (next .code ≡ 0)
+    passed true code who place next h = absurd (omega (arith, h))
+    passed false code who place next h = (refl, h)
+
+pub record-long : (n : ℕ) (on off : List ℕ) → length (record-bytes n on off) ≡ 5 + length on + length off
+unfolding record-bytes
+record-long n on off = omega (arith, length-append on off)
+
+pub fits-short : (room needed : ℕ) → room < needed → fits room needed ≡ refused 18 4 needed
+unfolding fits
+fits-short room needed h = simp (lt-ltb _ _ h)
+
+pub fits-enough : (room needed : ℕ) → needed ≤ room → fits room needed ≡ accepted 3 needed
+unfolding fits
+fits-enough room needed h = simp (le-ltb _ _ h)
+
+-- header, on list and off list, stored one after the other
+pub stored : (l header on off : List ℕ) → length header ≡ 5 → sets (sets (sets l 0 header) 5 on) (5 + length on) off ≡ sets l 0 (header ++ (on ++ off))
+stored l header on off e =
+    sets-join (sets l 0 header) on off 5
+    ∙ ap (λ (k : ℕ). sets (sets l 0 header) k (on ++ off)) (omega (arith, e))
+    ∙ sets-join l header (on ++ off) 0

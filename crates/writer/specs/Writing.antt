@@ -1,0 +1,44 @@
+-- The writer of function records, in the order of document 01: 3; 19 for the on list, then the off list; 4 likewise; 5 and 6
+-- through the on list, then the off list; 7; 18. Record 1 is the on list, 2 the off list; places count within the list.
+use Prim.Native.Nat.{ℕ, _+_, _/_, _%_}
+use mathlib.Core.Bool.{Bool, true, false, cond}
+use mathlib.Core.List.{List, [], _∷_, _++_}
+use lib.Dec.{ltb, eqb}
+use lib.ListN.{length}
+use Rattle.answers.specs.declared.Answer.{Answer}
+use Rattle.answers.specs.Answers.{accepted, refused, by, _or-else_}
+use Rattle.records.specs.Records.{first-fault, cube-code, clash-code}
+
+-- the record's bytes, from n and the two lists of cube bytes
+unfoldable pub record-bytes : ℕ → List ℕ → List ℕ → List ℕ
+record-bytes n on off = 0x46 ∷ 0x4E ∷ n ∷ length on / 2 ∷ length off / 2 ∷ on ++ off
+
+-- nothing is refused so far
+abbrev pub fine : Answer
+fine = accepted 3 0
+
+-- n, and the lengths of the lists
+unfoldable pub sizes : ℕ → List ℕ → List ℕ → Answer
+sizes n on off =
+    cond (ltb n 1) (refused 3 0 0)
+    (cond (ltb 8 n) (refused 3 0 0)
+    (cond (eqb (length on % 2) 1) (refused 19 1 (length on))
+    (cond (eqb (length off % 2) 1) (refused 19 2 (length off))
+    (cond (ltb 128 (length on)) (refused 4 1 128)
+    (cond (ltb 128 (length off)) (refused 4 2 128)
+    fine)))))
+
+-- the cubes
+unfoldable pub cubes : ℕ → List ℕ → List ℕ → Answer
+cubes n on off =
+    by 1 (first-fault (cube-code n) on 0)
+    (by 2 (first-fault (cube-code n) off 0)
+    (by 1 (first-fault (clash-code n off) on 0)
+    fine))
+
+-- the buffer
+unfoldable pub fits : ℕ → ℕ → Answer
+fits room needed = cond (ltb room needed) (refused 18 4 needed) (accepted 3 needed)
+
+unfoldable pub writing : ℕ → List ℕ → List ℕ → ℕ → Answer
+writing n on off room = sizes n on off or-else cubes n on off or-else fits room (length (record-bytes n on off))
