@@ -1,9 +1,9 @@
 // The four numbers of an answer, faults found while bytes are read in order, and writing into a lent buffer.
 ghost use mathlib.Core.Path.{_≡_};
-ghost use Prim.Native.Nat.{_+_, _≤_};
+ghost use Prim.Native.Nat.{_+_, _^_, _≤_, _<_};
 ghost use lib.ListN.{length};
 ghost use lib.Seq.{sets};
-ghost use Rattle.answers.specs.Answers.{_then_, byte-fault, length-fault};
+ghost use Rattle.answers.specs.Answers.{_then_, byte-fault, length-fault, packed};
 ghost use Rattle.answers.specs.Answers.{accepted as accepting, refused as refusing};
 
 // What reader, summary, matcher, checker and writer answer.
@@ -101,4 +101,16 @@ pub fn put(out: &mut [u8], at: usize, bytes: &[u8])
         out[at + i] = bytes[i];
         i += 1;
     }
+}
+
+// One number for a host.
+pub fn pack(answer: Answer) -> u64
+    requires { ⌜ answer .place < 2 ^ 40 ⌝ }
+    ensures { λ r. ⌜ r ≡ packed answer ⌝ }
+{
+    let code = answer.code as u64;
+    let kind = answer.kind as u64;
+    let record = answer.record as u64;
+    let place = answer.place as u64;
+    code + 256 * kind + 65536 * record + 16777216 * place
 }

@@ -1,0 +1,75 @@
+// Exported functions for tests alone: each hands a public call's answer over as one number.
+ghost use mathlib.Core.Path.{_≡_};
+ghost use mathlib.Core.List.{[], _∷_};
+ghost use lib.ListN.{length};
+ghost use Rattle.answers.specs.Answers.{buffer-after};
+ghost use Rattle.records.specs.Records.{reading, summing, bytes-at-fault};
+ghost use Rattle.writer.specs.Writing.{writing, record-bytes};
+ghost use Rattle.probe.specs.Probe.{packed-mod, stored-if-room, counts-of, figures-of, Leaves};
+
+use answers::Answer;
+
+fn packed_mod(answer: Answer) -> u64
+    ensures { λ r. ⌜ r ≡ packed-mod answer ⌝ }
+{
+    answers::pack(Answer {
+        code: answer.code,
+        kind: answer.kind,
+        record: answer.record,
+        place: answer.place % 0x100_0000_0000,
+    })
+}
+
+// Stores three numbers at the slice's start, if it has room for them.
+fn store_three(numbers: &mut [u64], x: u64, y: u64, z: u64)
+    ensures { λ r. ⌜ now (numbers .exit) ≡ stored-if-room (x ∷ y ∷ z ∷ []) (now (numbers .entry)) ⌝ }
+{
+    if numbers.len() < 3 {
+        return;
+    }
+    numbers[0] = x;
+    numbers[1] = y;
+    numbers[2] = z;
+}
+
+#[no_mangle]
+pub extern "C" fn probe_read(record: &[u8], numbers: &mut [u64]) -> u64
+    ensures { λ r. ⌜ Leaves (packed-mod (reading (now («record» .entry)) .answer)) (counts-of (reading (now («record» .entry)))) (now (numbers .entry)) (now (numbers .exit)) r ⌝ }
+{
+    let found = records::read(record);
+    store_three(numbers, found.n as u64, found.a as u64, found.b as u64);
+    let answer = found.answer;
+    packed_mod(answer)
+}
+
+#[no_mangle]
+pub extern "C" fn probe_summary(record: &[u8], numbers: &mut [u64]) -> u64
+    ensures { λ r. ⌜ Leaves (packed-mod (summing (now («record» .entry)) .answer)) (figures-of (summing (now («record» .entry)))) (now (numbers .entry)) (now (numbers .exit)) r ⌝ }
+{
+    let found = records::summary(record);
+    store_three(numbers, found.on as u64, found.off as u64, found.used as u64);
+    let answer = found.answer;
+    packed_mod(answer)
+}
+
+#[no_mangle]
+pub extern "C" fn probe_write(n: u8, on: &[u8], off: &[u8], out: &mut [u8]) -> u64
+    ensures { λ r. ⌜ r ≡ packed-mod (writing n (now (on .entry)) (now (off .entry)) (length (now (out .entry)))) ⌝ }
+    ensures { λ r. ⌜ now (out .exit) ≡ buffer-after (writing n (now (on .entry)) (now (off .entry)) (length (now (out .entry)))) (record-bytes n (now (on .entry)) (now (off .entry))) (now (out .entry)) ⌝ }
+{
+    packed_mod(writer::write(n, on, off, out))
+}
+
+// Copies the bytes at fault into the buffer, if they fit, and returns their number.
+#[no_mangle]
+pub extern "C" fn probe_fault<'a>(f: &'a [u8], g: &'a [u8], out: &mut [u8]) -> u64
+    ensures { λ r. ⌜ Leaves (length (bytes-at-fault (now (f .entry)) (now (g .entry)))) (bytes-at-fault (now (f .entry)) (now (g .entry))) (now (out .entry)) (now (out .exit)) r ⌝ }
+{
+    let part = records::at_fault(f, g);
+    let len = part.len();
+    if out.len() < len {
+        return len as u64;
+    }
+    answers::put(out, 0, part);
+    len as u64
+}
