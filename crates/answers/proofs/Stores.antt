@@ -32,11 +32,6 @@ pub after-refused : (a : Answer) (bytes before : List ℕ) → (a .code ≡ 0 �
 unfolding buffer-after
 after-refused a bytes before e = ap (λ (t : Bool). cond t (sets before 0 bytes) before) (ne-eqb _ _ e)
 
--- any two results that it allows are equal
-pub delivered-settled : (a : Answer) (bytes before after after′ : List ℕ) (r r′ : Answer)
-  → Delivered a bytes before after r → Delivered a bytes before after′ r′ → (r ≡ r′) × (after ≡ after′)
-delivered-settled a bytes before after after′ r r′ d e = (d .returned ∙ sym (e .returned), d .buffer ∙ sym (e .buffer))
-
 -- as a function meets it: a refusal leaves the buffer, and an accepted answer has stored the bytes
 pub delivered-refusal : (a : Answer) (bytes before : List ℕ) (r : Answer) → r ≡ a → (r .code ≡ 0 → ⊥) → Delivered a bytes before before r
 delivered-refusal a bytes before r e bad =

@@ -161,3 +161,25 @@ module _ (p q : ℕ → Bool) where
   unfolding count
   count-same zero f = refl
   count-same (suc n) f = ap₂ (λ (c : ℕ) (t : Bool). c + cond t 1 0) (count-same n (λ k h. f k (le-step h))) (f n (le-refl (suc n)))
+
+-- where only numbers below n pass, no more than n do
+pub count-under : (p : ℕ → Bool) (m n : ℕ) → ((k : ℕ) → k < m → p k ≡ true → k < n) → count m p ≤ n
+unfolding count
+count-under p zero n f = omega arith
+count-under p (suc m) n f = go (p m) refl (count-under p m n (λ k h. f k (le-step h)))
+  where
+    go : (t : Bool) → p m ≡ t → count m p ≤ n → count m p + cond t 1 0 ≤ n
+    go true e h = omega (arith, f m (le-refl (suc m)) e, count-le p m)
+    go false e h = omega arith
+
+-- tests that no number passes both of: together no more pass than there are
+pub count-apart : (p q : ℕ → Bool) (n : ℕ) → ((k : ℕ) → k < n → p k ≡ true → q k ≡ true → ⊥) → count n p + count n q ≤ n
+unfolding count
+count-apart p q zero f = omega arith
+count-apart p q (suc n) f = go (p n) (q n) refl refl (count-apart p q n (λ k h. f k (le-step h)))
+  where
+    go : (t u : Bool) → p n ≡ t → q n ≡ u → count n p + count n q ≤ n → count n p + cond t 1 0 + (count n q + cond u 1 0) ≤ suc n
+    go true true e d h = absurd (f n (le-refl (suc n)) e d)
+    go true false e d h = omega arith
+    go false true e d h = omega arith
+    go false false e d h = omega arith

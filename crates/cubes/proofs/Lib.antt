@@ -1,2 +1,3 @@
 pub mod Masks
 pub mod Lists
+pub mod Settled

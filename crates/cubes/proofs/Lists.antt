@@ -2,13 +2,14 @@
 -- `at + 2`; a loop keeps "what remains decides the whole".
 use Prim.Native.Nat.{ℕ, zero, suc, _+_, _*_, _^_, _≤_, _<_}
 use mathlib.Core.Path.{_≡_, refl, sym, ap, ap₂, _∙_, subst}
-use mathlib.Core.Bool.{Bool, true, false, _&&_, _||_}
+use mathlib.Core.Bool.{Bool, true, false, _&&_, _||_, false≢true}
 use mathlib.Core.List.{List, [], _∷_}
+use mathlib.Core.Logic.{⊎-elim}
 use native.Mathlib.Numerals.{add-one, add-two}
 use native.Mathlib.Omega.{arith}
 use lib.ListN.{length, getD, take, drop, length-drop}
 use lib.Seq.{drop-cons}
-use Rattle.bits.proofs.Below.{or-left, and-false, and-or, any-or, any-never}
+use Rattle.bits.proofs.Below.{or-left, either, and-false, and-or, any-or, any-never}
 use Rattle.bits.specs.Bits.{any}
 use Rattle.cubes.specs.Cubes.{some-cube}
 
@@ -86,6 +87,14 @@ module _ (Q : ℕ → ℕ → Type 0) where
   each-bytes [] b e = tt
   each-bytes (P ∷ []) b e = tt
   each-bytes (P ∷ N ∷ l) b e = ((b 0, b 1, e .0), each-bytes l (λ i. b (suc (suc i))) (e .1))
+
+  -- what follows from a cube that passes a test, where each has the property
+  pub each-some : (R : Type 0) (t : ℕ → ℕ → Bool) → ((P N : ℕ) → Q P N → t P N ≡ true → R) → (l : List ℕ) → Each Q l → some-cube t l ≡ true → R
+  unfolding Each some-cube
+  each-some R t f [] e s = absurd (false≢true s)
+  each-some R t f (P ∷ []) e s = absurd (false≢true s)
+  each-some R t f (P ∷ N ∷ l) e s =
+      ⊎-elim (λ (h : t P N ≡ true). f P N (e .0) h) (λ (h : some-cube t l ≡ true). each-some R t f l (e .1) h) (either (t P N) (some-cube t l) s)
 
   -- of a list cut after k cubes, both parts
   take-twice : (k : ℕ) (l : List ℕ) → Each Q l → Each Q (take (twice k) l)

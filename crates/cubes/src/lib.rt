@@ -67,7 +67,7 @@ pub fn patterns(cubes: &[u8], n: u8) -> u32
 }
 
 // The mask of the inputs that some cube of the list names.
-pub fn names(cubes: &[u8]) -> u8
+fn names(cubes: &[u8]) -> u8
     ensures { λ r. ⌜ ((i : ℕ) → has r i ≡ some-cube (λ P N. cube-names P N i) (now (cubes .entry))) ⌝ }
 {
     let mut mask = 0u8;

@@ -3,3 +3,5 @@ pub mod Walks
 pub mod Frame
 pub mod Cubes
 pub mod Places
+pub mod Meaning
+pub mod Settled

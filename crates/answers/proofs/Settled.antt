@@ -1,0 +1,41 @@
+-- Any two outcomes that a public contract allows are equal.
+use mathlib.Core.Path.{_≡_, sym, _∙_}
+use Rattle.settled.specs.Settled.{Settled, SettledAs}
+use mathlib.Core.List.{List}
+use Prim.Native.Nat.{ℕ}
+use Rattle.answers.proofs.accepted.Kinds as accepted-kinds
+use Rattle.answers.proofs.accepted.Reads as accepted
+use Rattle.answers.proofs.refused.Kinds as refused-kinds
+use Rattle.answers.proofs.refused.Reads as refused
+use Rattle.answers.proofs.byte_fault.Kinds as byte-fault-kinds
+use Rattle.answers.proofs.byte_fault.Reads as byte-fault
+use Rattle.answers.proofs.then_byte.Kinds as then-byte-kinds
+use Rattle.answers.proofs.then_byte.Reads as then-byte
+use Rattle.answers.proofs.length_fault.Kinds as length-fault-kinds
+use Rattle.answers.proofs.length_fault.Reads as length-fault
+use Rattle.answers.proofs.pack.Kinds as pack-kinds
+use Rattle.answers.proofs.pack.Reads as pack
+use Rattle.answers.proofs.put.Kinds as put-kinds
+use Rattle.answers.proofs.put.Reads as put
+
+pub accepted-settled : Settled 0 accepted-kinds.ps accepted-kinds.r accepted.Post
+accepted-settled κs a r₁ r₂ s₁ s₂ p q = p ∙ sym q
+
+pub refused-settled : Settled 0 refused-kinds.ps refused-kinds.r refused.Post
+refused-settled κs a r₁ r₂ s₁ s₂ p q = p ∙ sym q
+
+pub byte-fault-settled : Settled 1 byte-fault-kinds.ps byte-fault-kinds.r byte-fault.Post
+byte-fault-settled κs a r₁ r₂ s₁ s₂ p q = p ∙ sym q
+
+pub then-byte-settled : Settled 1 then-byte-kinds.ps then-byte-kinds.r then-byte.Post
+then-byte-settled κs a r₁ r₂ s₁ s₂ p q = p ∙ sym q
+
+pub length-fault-settled : Settled 0 length-fault-kinds.ps length-fault-kinds.r length-fault.Post
+length-fault-settled κs a r₁ r₂ s₁ s₂ p q = p ∙ sym q
+
+pub pack-settled : Settled 0 pack-kinds.ps pack-kinds.r pack.Post
+pack-settled κs a r₁ r₂ s₁ s₂ p q = p ∙ sym q
+
+-- what is seen is the buffer afterwards
+pub put-settled : SettledAs 2 put-kinds.ps put-kinds.r (λ κs. List ℕ) (λ κs x s. s .0 .now) put.Post
+put-settled κs a r₁ r₂ s₁ s₂ p q = p ∙ sym q

@@ -1,0 +1,130 @@
+// Runs the cases of document 01 on records and summaries through the public calls, and prints a line for each.
+ghost use Prim.Native.Nat.{_≤_};
+ghost use lib.ListN.{length};
+
+mod functions;
+mod kinds;
+mod show;
+
+use functions::CONJ;
+use functions::CONST;
+use functions::DISJ;
+use functions::ODD;
+use functions::OPEN;
+use functions::WIRE;
+
+// 6 in cube 0 and 5 in cube 1.
+const SIX_THEN_FIVE: [u8; 9] = [0x46, 0x4E, 0x01, 0x02, 0x00, 0x01, 0x01, 0x02, 0x00];
+
+// The second on cube shares pattern 2 with the off cube.
+const CLASH: [u8; 11] = [0x46, 0x4E, 0x02, 0x02, 0x01, 0x01, 0x02, 0x02, 0x00, 0x00, 0x01];
+
+// The summaries marked *.
+fn summaries() {
+    kinds::sums(b"Conj", &CONJ);
+    kinds::sums(b"Odd", &ODD);
+    kinds::sums(b"Open", &OPEN);
+}
+
+fn two_inputs() {
+    kinds::reads(b"Conj", &CONJ);
+    kinds::reads(b"Disj", &DISJ);
+    kinds::reads(b"Odd", &ODD);
+}
+
+fn one_input() {
+    kinds::reads(b"Const", &CONST);
+    kinds::reads(b"Wire", &WIRE);
+    kinds::reads(b"Open", &OPEN);
+}
+
+fn headers() {
+    kinds::reads(b"Empty record", b"");
+    kinds::reads(b"46 4E 00", b"\x46\x4E\x00");
+    kinds::reads(b"46 4E 08 41", b"\x46\x4E\x08\x41");
+}
+
+// Fills s with a record of one input, whose on cubes are all `01 00`.
+fn fill(s: &mut [u8], a: u8)
+    requires { ⌜ 5 ≤ length (now s) ⌝ }
+{
+    let header = [0x46, 0x4E, 0x01, a, 0x00];
+    answers::put(s, 0, &header);
+    let mut at = 5;
+    while at + 1 < s.len() {
+        answers::put(s, at, b"\x01\x00");
+        at += 2;
+    }
+}
+
+fn counts() {
+    let mut most = [0u8; 133];
+    fill(&mut most, 64);
+    kinds::reads(b"A count of 64 passes", &most);
+    let mut more = [0u8; 135];
+    fill(&mut more, 65);
+    kinds::reads(b"A count of 65", &more);
+}
+
+// The order of tests: header bytes, cubes, 7.
+fn order() {
+    kinds::reads(b"46", b"\x46");
+    kinds::reads(b"47", b"\x47");
+    kinds::reads(b"6 in cube 0, 5 in cube 1", &SIX_THEN_FIVE);
+    kinds::reads(b"5 before 6 in one cube", b"\x46\x4E\x01\x01\x00\x03\x03");
+    kinds::reads(b"7 at the second on cube", &CLASH);
+}
+
+fn lengths() {
+    let longer = [0x46, 0x4E, 0x02, 0x01, 0x02, 0x03, 0x00, 0x00, 0x01, 0x00, 0x02, 0x00];
+    kinds::reads(b"Conj and a byte after the end", &longer);
+    kinds::reads(b"Conj without its last byte", &CONJ[..10]);
+}
+
+// Writes Conj into the buffer.
+fn writes_conj(name: &[u8], out: &mut [u8]) {
+    kinds::writes(name, 2, b"\x03\x00", b"\x00\x01\x00\x02", out);
+}
+
+fn rooms() {
+    let mut just = [0xAAu8; 11];
+    writes_conj(b"Conj into 11 bytes", &mut just);
+    let mut short = [0xAAu8; 10];
+    writes_conj(b"Conj into 10 bytes", &mut short);
+    let mut long = [0xAAu8; 13];
+    writes_conj(b"Conj into 13 bytes", &mut long);
+}
+
+// Gives the writer an n or an on list that it refuses, with Conj's off list.
+fn refuses(name: &[u8], n: u8, on: &[u8]) {
+    let mut out = [0xAAu8; 11];
+    kinds::writes(name, n, on, b"\x00\x01\x00\x02", &mut out);
+}
+
+fn refusals() {
+    refuses(b"An on list of 3 bytes", 2, b"\x03\x00\x03");
+    refuses(b"n of 0", 0, b"\x03\x00");
+    refuses(b"n of 9", 9, b"\x03\x00");
+    let long = [0u8; 130];
+    refuses(b"An on list of 130 bytes", 2, &long);
+}
+
+fn at_fault() {
+    kinds::faults(b"At fault in f", &SIX_THEN_FIVE, &CLASH);
+    kinds::faults(b"At fault in g", &CONJ, &CLASH);
+    kinds::faults(b"At fault, both sound", &CONJ, &DISJ);
+    kinds::faults(b"At fault, f ends too early", &CONJ[..10], &CLASH);
+}
+
+fn main() {
+    summaries();
+    two_inputs();
+    one_input();
+    headers();
+    counts();
+    order();
+    lengths();
+    rooms();
+    refusals();
+    at_fault();
+}

@@ -1,0 +1,54 @@
+// What a line is made of: text, decimal numbers, bytes in capital hex.
+ghost use Prim.Native.Nat.{_<_};
+
+use answers::Answer;
+
+pub fn text(bytes: &[u8]) {
+    io::write_all(1, bytes);
+}
+
+fn number(x: u64) {
+    io::print_decimal(1, x);
+}
+
+// Three numbers with single blanks.
+pub fn three(x: u64, y: u64, z: u64) {
+    number(x);
+    text(b" ");
+    number(y);
+    text(b" ");
+    number(z);
+}
+
+// The case's name and the answer's four numbers.
+pub fn answer(name: &[u8], found: Answer) {
+    text(name);
+    text(b": ");
+    three(found.code as u64, found.kind as u64, found.record as u64);
+    text(b" ");
+    number(found.place as u64);
+    text(b"; ");
+}
+
+fn digit(d: u8) -> u8
+    requires { ⌜ d < 16 ⌝ }
+{
+    if d < 10 { b'0' + d } else { b'A' + (d - 10) }
+}
+
+fn byte(b: u8) {
+    let two = [digit(b / 16), digit(b % 16)];
+    text(&two);
+}
+
+// Bytes with single blanks.
+pub fn hex(bytes: &[u8]) {
+    let mut i = 0;
+    while i < bytes.len() {
+        if i != 0 {
+            text(b" ");
+        }
+        byte(bytes[i]);
+        i += 1;
+    }
+}

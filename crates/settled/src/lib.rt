@@ -1,0 +1,1 @@
+// What it means that a contract settles its call. It has no function.

@@ -1,0 +1,12 @@
+-- Any two outcomes that a public contract allows are equal.
+use mathlib.Core.Path.{_≡_, sym, _∙_}
+use Rattle.settled.specs.Settled.{SettledAs}
+use Prim.Native.Nat.{ℕ}
+use mathlib.Core.List.{List}
+use Rattle.answers.specs.declared.Answer.{Answer}
+use Rattle.writer.proofs.write.Kinds as write-kinds
+use Rattle.writer.proofs.write.Reads as write
+
+-- the answer, and the buffer afterwards
+pub write-settled : SettledAs 3 write-kinds.ps write-kinds.r (λ κs. Answer × List ℕ) (λ κs x s. (x, s .1 .1 .1 .0 .now)) write.Post
+write-settled κs a r₁ r₂ s₁ s₂ p q i = ((p .returned ∙ sym (q .returned)) i, (p .buffer ∙ sym (q .buffer)) i)
