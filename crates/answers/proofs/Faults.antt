@@ -60,6 +60,22 @@ then-both f g e = go (eqb (f .code) 0) refl e
     go true q h = (eqb-true _ _ q, h)
     go false q h = absurd (eqb-false _ _ q h)
 
+pub by-both : (who : ℕ) (f : Fault) (next : Answer) → by who f next .code ≡ 0 → (f .code ≡ 0) × (next .code ≡ 0)
+unfolding by
+by-both who f next e = go (eqb (f .code) 0) refl e
+  where
+    go : (t : Bool) → eqb (f .code) 0 ≡ t → cond t next (refused (f .code) who (f .place)) .code ≡ 0 → (f .code ≡ 0) × (next .code ≡ 0)
+    go true q h = (eqb-true _ _ q, h)
+    go false q h = absurd (eqb-false _ _ q h)
+
+pub or-else-both : (a b : Answer) → (a or-else b) .code ≡ 0 → (a .code ≡ 0) × (b .code ≡ 0)
+unfolding _or-else_
+or-else-both a b e = go (eqb (a .code) 0) refl e
+  where
+    go : (t : Bool) → eqb (a .code) 0 ≡ t → cond t b a .code ≡ 0 → (a .code ≡ 0) × (b .code ≡ 0)
+    go true q h = (eqb-true _ _ q, h)
+    go false q h = absurd (eqb-false _ _ q h)
+
 -- a header byte that is sound is there, and from low to high
 pub record Byte (s : List ℕ) (k low high : ℕ) : Type 0 where
   pub there : k < length s

@@ -14,10 +14,10 @@ use functions::OPEN;
 use functions::WIRE;
 
 // 6 in cube 0 and 5 in cube 1.
-const SIX_THEN_FIVE: [u8; 9] = [0x46, 0x4E, 0x01, 0x02, 0x00, 0x01, 0x01, 0x02, 0x00];
+const SIX_THEN_FIVE: [u8; 9] = *b"\x46\x4E\x01\x02\x00\x01\x01\x02\x00";
 
 // The second on cube shares pattern 2 with the off cube.
-const CLASH: [u8; 11] = [0x46, 0x4E, 0x02, 0x02, 0x01, 0x01, 0x02, 0x02, 0x00, 0x00, 0x01];
+const CLASH: [u8; 11] = *b"\x46\x4E\x02\x02\x01\x01\x02\x02\x00\x00\x01";
 
 // The summaries marked *.
 fn summaries() {
@@ -76,8 +76,8 @@ fn order() {
 }
 
 fn lengths() {
-    let longer = [0x46, 0x4E, 0x02, 0x01, 0x02, 0x03, 0x00, 0x00, 0x01, 0x00, 0x02, 0x00];
-    kinds::reads(b"Conj and a byte after the end", &longer);
+    let longer = b"\x46\x4E\x02\x01\x02\x03\x00\x00\x01\x00\x02\x00";
+    kinds::reads(b"Conj and a byte after the end", longer);
     kinds::reads(b"Conj without its last byte", &CONJ[..10]);
 }
 

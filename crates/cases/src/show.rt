@@ -1,6 +1,5 @@
 // What a line is made of: text, decimal numbers, bytes in capital hex.
 ghost use Prim.Native.Nat.{_<_};
-
 use answers::Answer;
 
 pub fn text(bytes: &[u8]) {

@@ -2,12 +2,12 @@
 use Prim.Native.Nat.{ℕ}
 use mathlib.Core.Path.{_≡_, refl, sym, ap, _∙_}
 use mathlib.Core.List.{List}
-use lib.ListN.{length, drop}
-use native.Mathlib.Omega.{arith}
+use lib.ListN.{length}
+use borrow.Author.Tests.{eq-eqb}
 use Rattle.answers.specs.declared.Fault.{Fault}
-use Rattle.answers.specs.Answers.{sound, _then_, byte-fault, length-fault}
+use Rattle.answers.specs.Answers.{accepted, sound, _then_, byte-fault, length-fault}
 use Rattle.answers.proofs.Faults.{Byte, byte-sound, byte-good, length-sound, length-good, then-both, then-next, then-stop}
-use Rattle.records.specs.Records.{record-end, header-bytes, header-fault, cubes-fault, clash-fault, record-fault}
+use Rattle.records.specs.Records.{inputs, on-count, off-count, record-end, with-counts, reading, header-bytes, header-fault, cubes-fault, clash-fault, record-fault}
 
 -- the header bytes are there, and each is in its range
 pub record Header (s : List ℕ) : Type 0 where
@@ -67,3 +67,23 @@ ends-at-cubes s h c = ap (λ (f : Fault). f then clash-fault s) (then-next _ _ h
 pub ends-at-clash : (s : List ℕ) → header-fault s .code ≡ 0 → cubes-fault s .code ≡ 0 → record-fault s ≡ clash-fault s
 unfolding record-fault
 ends-at-clash s h c = ap (λ (f : Fault). f then clash-fault s) (then-next _ _ h) ∙ then-next _ _ c
+
+-- ---- and the other way: a record of this form is accepted
+
+bytes-good : (s : List ℕ) → Header s → header-bytes s ≡ sound
+unfolding header-bytes _then_
+bytes-good s h i =
+    byte-good s 0 0x46 0x46 2 (h .mark₀) i then byte-good s 1 0x4E 0x4E 2 (h .mark₁) i then byte-good s 2 1 8 3 (h .n-byte) i
+    then byte-good s 3 0 64 4 (h .a-byte) i then byte-good s 4 0 64 4 (h .b-byte) i
+
+header-good : (s : List ℕ) → Framed s → header-fault s ≡ sound
+unfolding header-fault _then_
+header-good s f i = bytes-good s (f .header) i then (ap (λ (end : ℕ). length-fault (length s) end) (f .long) ∙ length-good (length s)) i
+
+pub record-good : (s : List ℕ) → Sound s → record-fault s .code ≡ 0
+record-good s h = ap (λ (f : Fault). f .code) (ends-at-clash s (ap (λ (f : Fault). f .code) (header-good s (h .framed))) (h .cubes)) ∙ h .apart
+
+-- the reader's answer to an accepted record
+pub reading-accepted : (s : List ℕ) → record-fault s .code ≡ 0 → reading s ≡ with-counts (accepted 3 (length s)) (inputs s) (on-count s) (off-count s)
+unfolding reading
+reading-accepted s e = simp (eq-eqb _ 0 e)

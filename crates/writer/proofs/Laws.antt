@@ -3,15 +3,19 @@ use Prim.Native.Nat.{ℕ, suc, _+_, _%_, _≤_, _<_}
 use mathlib.Core.Path.{_≡_, refl, sym, ap, _∙_}
 use mathlib.Core.Bool.{Bool, true, false, cond}
 use mathlib.Core.List.{List, [], _∷_, _++_}
-use borrow.Author.Tests.{lt-ltb, le-ltb, ltb-false, eqb-false}
+use borrow.Author.Tests.{lt-ltb, le-ltb, ltb-false, ne-eqb, eqb-false}
 use native.Mathlib.Omega.{arith}
 use lib.Dec.{ltb, eqb}
 use lib.ListN.{length, length-append}
 use lib.Seq.{sets}
 use Rattle.answers.specs.declared.Answer.{Answer}
-use Rattle.answers.specs.Answers.{accepted, refused}
+use Rattle.cubes.proofs.Lists.{Each}
+use Rattle.records.specs.Records.{cube-code, clash-code}
+use Rattle.records.proofs.Cubes.{first-each, each-first}
+use Rattle.answers.specs.Answers.{accepted, refused, sound}
+use Rattle.answers.proofs.Faults.{by-both, by-next}
 use Rattle.answers.proofs.Stores.{sets-join}
-use Rattle.writer.specs.Writing.{record-bytes, sizes, fits}
+use Rattle.writer.specs.Writing.{record-bytes, fine, sizes, cubes, fits}
 
 pub record Sized (n : ℕ) (on off : List ℕ) : Type 0 where
   pub least : 1 ≤ n
@@ -62,3 +66,36 @@ stored l header on off e =
     sets-join (sets l 0 header) on off 5
     ∙ ap (λ (k : ℕ). sets (sets l 0 header) k (on ++ off)) (omega (arith, e))
     ∙ sets-join l header (on ++ off) 0
+
+pub sizes-good : (n : ℕ) (on off : List ℕ) → Sized n on off → sizes n on off ≡ fine
+unfolding sizes
+sizes-good n on off h =
+    simp
+    (le-ltb _ _ (h .least), le-ltb _ _ (h .most), ne-eqb _ _ (odd (h .on-even)), ne-eqb _ _ (odd (h .off-even)), le-ltb _ _ (h .on-few), le-ltb _ _ (h .off-few))
+  where
+    odd : {k : ℕ} → k ≡ 0 → k ≡ 1 → ⊥
+    odd p q = omega arith
+
+-- ---- the cubes
+
+-- neither list has a fault, and no on cube shares a pattern with an off cube
+pub record Right (n : ℕ) (on off : List ℕ) : Type 0 where
+  pub on-cubes : Each (λ P N. cube-code n P N ≡ 0) on
+  pub off-cubes : Each (λ P N. cube-code n P N ≡ 0) off
+  pub apart : Each (λ P N. clash-code n off P N ≡ 0) on
+
+pub cubes-right : (n : ℕ) (on off : List ℕ) → cubes n on off .code ≡ 0 → Right n on off
+unfolding cubes
+cubes-right n on off e =
+    let c₁ = by-both 1 _ _ e in
+    let c₂ = by-both 2 _ _ (c₁ .1) in
+    let c₃ = by-both 1 _ _ (c₂ .1) in
+    record { on-cubes = first-each _ on 0 (c₁ .0); off-cubes = first-each _ off 0 (c₂ .0); apart = first-each _ on 0 (c₃ .0) }
+
+pub cubes-good : (n : ℕ) (on off : List ℕ) → Right n on off → cubes n on off ≡ fine
+unfolding cubes
+cubes-good n on off h =
+    sym
+    (by-next 1 sound _ _ _ (sym (each-first _ on 0 (h .on-cubes))) refl
+    (by-next 2 sound _ _ _ (sym (each-first _ off 0 (h .off-cubes))) refl
+    (by-next 1 sound _ _ _ (sym (each-first _ on 0 (h .apart))) refl refl)))
