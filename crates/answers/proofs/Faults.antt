@@ -87,7 +87,7 @@ unfolding byte-fault
 byte-sound s k low high code e = go (leb (length s) k) (leb low (getD s k 0)) (leb (getD s k 0) high) refl refl refl e
   where
     go : (short least most : Bool) → leb (length s) k ≡ short → leb low (getD s k 0) ≡ least → leb (getD s k 0) high ≡ most
-      → cond short (fault 1 (length s)) (cond (least && most) sound (fault (suc code) k)) .code ≡ 0 → Byte s k low high
+        → cond short (fault 1 (length s)) (cond (least && most) sound (fault (suc code) k)) .code ≡ 0 → Byte s k low high
     go true least most p q r h = absurd (omega (arith, h))
     go false true true p q r h = record { there = leb-false _ _ p; least = leb-true _ _ q; most = leb-true _ _ r }
     go false true false p q r h = absurd (omega (arith, h))
@@ -122,12 +122,14 @@ module _ (Q : ℕ → Type 0) where
   unfolding byte-fault
   byte-codes s k low high code q₀ q₁ q =
       elim (leb (length s) k) as (λ t. Q (cond t (fault 1 (length s)) (cond (leb low (getD s k 0) && leb (getD s k 0) high) sound (fault code k)) .code)) [
-        true ↦ q₁ |
-        false ↦ elim (leb low (getD s k 0) && leb (getD s k 0) high) as (λ t. Q (cond t sound (fault code k) .code)) [ true ↦ q₀ | false ↦ q ] ]
+        | true ↦ q₁
+        | false ↦ elim (leb low (getD s k 0) && leb (getD s k 0) high) as (λ t. Q (cond t sound (fault code k) .code)) [ true ↦ q₀ | false ↦ q ]
+      ]
 
   pub length-codes : (len end : ℕ) → Q 0 → Q 1 → Q 8 → Q (length-fault len end .code)
   unfolding length-fault
   length-codes len end q₀ q₁ q₈ =
       elim (ltb len end) as (λ t. Q (cond t (fault 1 len) (cond (ltb end len) (fault 8 end) sound) .code)) [
-        true ↦ q₁ |
-        false ↦ elim (ltb end len) as (λ t. Q (cond t (fault 8 end) sound .code)) [ true ↦ q₈ | false ↦ q₀ ] ]
+        | true ↦ q₁
+        | false ↦ elim (ltb end len) as (λ t. Q (cond t (fault 8 end) sound .code)) [ true ↦ q₈ | false ↦ q₀ ]
+      ]

@@ -1,19 +1,20 @@
 -- Stores into a lent buffer, one byte after the other.
-use Prim.Native.Nat.{ℕ, zero, suc, _+_, _<_}
+use Prim.Native.Nat.{ℕ, zero, suc, _+_, _≤_, _<_}
 use mathlib.Core.Path.{_≡_, refl, sym, ap, ap₂, _∙_}
 use mathlib.Core.List.{List, [], _∷_, _++_}
 use mathlib.Core.Bool.{Bool, cond}
 use borrow.Author.Tests.{eq-eqb, ne-eqb}
-use native.Mathlib.Nat.{add-zero, add-suc, suc-add}
+use native.Mathlib.Nat.{add-zero, zero-add, add-suc, suc-add}
 use native.Mathlib.Numerals.{add-one}
-use lib.ListN.{length, getD, drop, set}
-use lib.Seq.{sets, drop-cons}
+use native.Mathlib.Omega.{arith}
+use lib.ListN.{length, getD, take, drop, set}
+use lib.Seq.{sets, sets-eq, drop-cons, take-append-seam, drop-append-seam}
 use Rattle.answers.specs.declared.Answer.{Answer}
 use Rattle.answers.specs.Answers.{buffer-after, Delivered}
 
 -- one byte of the run is stored, and the others come after it
 pub store-next : (out bytes : List ℕ) (at i : ℕ) → i < length bytes
-  → sets (set out (at + i) (getD bytes i 0)) (at + (i + 1)) (drop (i + 1) bytes) ≡ sets out (at + i) (drop i bytes)
+    → sets (set out (at + i) (getD bytes i 0)) (at + (i + 1)) (drop (i + 1) bytes) ≡ sets out (at + i) (drop i bytes)
 store-next out bytes at i h = rw (add-one, add-suc) (sym (ap (sets out (at + i)) (drop-cons bytes i 0 h)))
 
 -- two runs in a row are one
@@ -22,6 +23,21 @@ sets-join l [] b i = ap (λ (k : ℕ). sets l k b) (add-zero i)
 sets-join l (x ∷ a) b i =
     ap (λ (k : ℕ). sets (sets (set l i x) (suc i) a) k b) (add-suc i (length a) ∙ sym (suc-add i (length a)))
     ∙ sets-join (set l i x) a b (suc i)
+
+-- what a caller finds: the buffer begins with the bytes, `place` of them, and goes on as before
+pub record Stands (bytes before after : List ℕ) (place : ℕ) : Type 0 where
+  pub long : place ≡ length bytes
+  pub front : take place after ≡ bytes
+  pub behind : drop place after ≡ drop place before
+
+pub sets-stands : (bytes before : List ℕ) → length bytes ≤ length before → Stands bytes before (sets before 0 bytes) (length bytes)
+sets-stands bytes before h =
+    let e : sets before 0 bytes ≡ bytes ++ drop (length bytes) before = sets-eq bytes before 0 (omega (arith, h)) ∙ ap (λ (k : ℕ). bytes ++ drop k before) (zero-add (length bytes)) in
+    record {
+      long = refl;
+      front = ap (take (length bytes)) e ∙ take-append-seam bytes (drop (length bytes) before);
+      behind = ap (drop (length bytes)) e ∙ drop-append-seam bytes (drop (length bytes) before);
+    }
 
 -- a lent buffer after an accepted answer, and after a refusal
 pub after-accepted : (a : Answer) (bytes before : List ℕ) → a .code ≡ 0 → buffer-after a bytes before ≡ sets before 0 bytes

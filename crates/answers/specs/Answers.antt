@@ -12,7 +12,6 @@ use Rattle.answers.specs.declared.Fault.{Fault}
 
 infixl 30 _then_
 infixr 30 _or-else_
-
 -- accepted: code 0, record 0
 abbrev pub accepted : ℕ → ℕ → Answer
 accepted kind place = record { code = 0; kind = kind; «record» = 0; place = place }

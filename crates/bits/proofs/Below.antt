@@ -135,14 +135,14 @@ module _ (p q : ℕ → Bool) where
   any-or n =
       same-test _ _
       (λ e.
-        ⊎-elim (λ (h : any n p ≡ true). let w = any-at p n h in any-if (λ k. p k || q k) n (w .0) (w .1) (or-left (q (w .0)) (w .2)))
-        (λ (h : any n q ≡ true). let w = any-at q n h in any-if (λ k. p k || q k) n (w .0) (w .1) (or-right (p (w .0)) (w .2)))
-        (either (any n p) (any n q) e))
+      ⊎-elim (λ (h : any n p ≡ true). let w = any-at p n h in any-if (λ k. p k || q k) n (w .0) (w .1) (or-left (q (w .0)) (w .2)))
+      (λ (h : any n q ≡ true). let w = any-at q n h in any-if (λ k. p k || q k) n (w .0) (w .1) (or-right (p (w .0)) (w .2)))
+      (either (any n p) (any n q) e))
       (λ e.
-        let w = any-at (λ k. p k || q k) n e in
-        ⊎-elim (λ (h : p (w .0) ≡ true). or-left (any n q) (any-if p n (w .0) (w .1) h))
-        (λ (h : q (w .0) ≡ true). or-right (any n p) (any-if q n (w .0) (w .1) h))
-        (either (p (w .0)) (q (w .0)) (w .2)))
+      let w = any-at (λ k. p k || q k) n e in
+      ⊎-elim (λ (h : p (w .0) ≡ true). or-left (any n q) (any-if p n (w .0) (w .1) h))
+      (λ (h : q (w .0) ≡ true). or-right (any n p) (any-if q n (w .0) (w .1) h))
+      (either (p (w .0)) (q (w .0)) (w .2)))
 
   -- tests that say the same below n are passed alike
   pub every-same : (n : ℕ) → ((k : ℕ) → k < n → p k ≡ q k) → every n p ≡ every n q

@@ -49,7 +49,8 @@ holds-masks P N x p n = same-test _ _ forth back
         holds-if P N x
         (λ i h. record {
           ones = omega (arith, bit-and i P x, ap (bit i) ones);
-          zeros = omega (arith, bit-and i N x, ap (bit i) zeros, bit-zero i, bit-le i N, bit-le i x) })
+          zeros = omega (arith, bit-and i N x, ap (bit i) zeros, bit-zero i, bit-le i N, bit-le i x);
+        })
 
 -- ---- two cubes share a pattern exactly when no input is asked to be both 1 and 0; the witness is P or P′
 
@@ -63,13 +64,16 @@ module _ (P N P′ N′ : ℕ) where
       ap₂ min (sym (bit-or i P P′)) (sym (bit-or i N N′)) ∙ sym (bit-and i (bitOr P P′) (bitOr N N′)) ∙ ap (bit i) e ∙ bit-zero i
 
   pub witness : Clear → (cube-holds P N (bitOr P P′) ≡ true) × (cube-holds P′ N′ (bitOr P P′) ≡ true)
-  witness e =
-      (holds-if P N (bitOr P P′) (λ i h. record {
-        ones = omega (arith, bit-or i P P′);
-        zeros = omega (arith, bit-or i P P′, clear-at e i, bit-le i P, bit-le i P′, bit-le i N) }),
-      holds-if P′ N′ (bitOr P P′) (λ i h. record {
-        ones = omega (arith, bit-or i P P′);
-        zeros = omega (arith, bit-or i P P′, clear-at e i, bit-le i P, bit-le i P′, bit-le i N′) }))
+  witness e = (
+    holds-if P N (bitOr P P′) (λ i h. record {
+      ones = omega (arith, bit-or i P P′);
+      zeros = omega (arith, bit-or i P P′, clear-at e i, bit-le i P, bit-le i P′, bit-le i N);
+    }),
+    holds-if P′ N′ (bitOr P P′) (λ i h. record {
+      ones = omega (arith, bit-or i P P′);
+      zeros = omega (arith, bit-or i P P′, clear-at e i, bit-le i P, bit-le i P′, bit-le i N′);
+    }),
+  )
 
   -- where both hold any pattern, no input is asked to be both
   pub shared-clear : N < 2 ^ 8 → N′ < 2 ^ 8 → (x : ℕ) → cube-holds P N x ≡ true → cube-holds P′ N′ x ≡ true → Clear
@@ -77,8 +81,8 @@ module _ (P N P′ N′ : ℕ) where
       bits-zero 8 (bitAnd (bitOr P P′) (bitOr N N′))
       (lt-of-le-of-lt (and-le-r (bitOr P P′) (bitOr N N′)) (or-lt 8 N N′ n n′))
       (λ i h.
-        bit-and i (bitOr P P′) (bitOr N N′) ∙ ap₂ min (bit-or i P P′) (bit-or i N N′)
-        ∙ omega (arith, holds-at P N x e i h .ones, holds-at P N x e i h .zeros, holds-at P′ N′ x e′ i h .ones, holds-at P′ N′ x e′ i h .zeros))
+      bit-and i (bitOr P P′) (bitOr N N′) ∙ ap₂ min (bit-or i P P′) (bit-or i N N′)
+      ∙ omega (arith, holds-at P N x e i h .ones, holds-at P N x e i h .zeros, holds-at P′ N′ x e′ i h .ones, holds-at P′ N′ x e′ i h .zeros))
 
   -- the test by masks, for cubes of any number of inputs
   pub share-masks : (n : ℕ) → P < 2 ^ n → P′ < 2 ^ n → N < 2 ^ 8 → N′ < 2 ^ 8 → cubes-share n P N P′ N′ ≡ eqb (bitAnd (bitOr P P′) (bitOr N N′)) 0
@@ -86,11 +90,11 @@ module _ (P N P′ N′ : ℕ) where
   share-masks n p p′ h h′ =
       same-test _ _
       (λ e.
-        let w = any-at (λ x. cube-holds P N x && cube-holds P′ N′ x) (2 ^ n) e in
-        eq-eqb _ _
-        (shared-clear h h′ (w .0)
-        (both-left (cube-holds P N (w .0)) (cube-holds P′ N′ (w .0)) (w .2))
-        (both-right (cube-holds P N (w .0)) (cube-holds P′ N′ (w .0)) (w .2))))
+      let w = any-at (λ x. cube-holds P N x && cube-holds P′ N′ x) (2 ^ n) e in
+      eq-eqb _ _
+      (shared-clear h h′ (w .0)
+      (both-left (cube-holds P N (w .0)) (cube-holds P′ N′ (w .0)) (w .2))
+      (both-right (cube-holds P N (w .0)) (cube-holds P′ N′ (w .0)) (w .2))))
       (λ e.
-        let w = witness (eqb-true _ _ e) in
-        any-if (λ x. cube-holds P N x && cube-holds P′ N′ x) (2 ^ n) (bitOr P P′) (or-lt n P P′ p p′) (both (w .0) (w .1)))
+      let w = witness (eqb-true _ _ e) in
+      any-if (λ x. cube-holds P N x && cube-holds P′ N′ x) (2 ^ n) (bitOr P P′) (or-lt n P P′ p p′) (both (w .0) (w .1)))

@@ -6,7 +6,6 @@ ghost use Rattle.answers.specs.Answers.{buffer-after};
 ghost use Rattle.records.specs.Records.{reading, summing, bytes-at-fault};
 ghost use Rattle.writer.specs.Writing.{writing, record-bytes};
 ghost use Rattle.probe.specs.Probe.{packed-mod, stored-if-room, counts-of, figures-of, Leaves};
-
 use answers::Answer;
 
 fn packed_mod(answer: Answer) -> u64
@@ -47,7 +46,12 @@ pub extern "C" fn probe_summary(record: &[u8], numbers: &mut [u64]) -> u64
     ensures { λ r. ⌜ Leaves (packed-mod (summing (now («record» .entry)) .answer)) (figures-of (summing (now («record» .entry)))) (now (numbers .entry)) (now (numbers .exit)) r ⌝ }
 {
     let found = records::summary(record);
-    store_three(numbers, found.on as u64, found.off as u64, found.used as u64);
+    store_three(
+        numbers,
+        found.on as u64,
+        found.off as u64,
+        found.used as u64,
+    );
     let answer = found.answer;
     packed_mod(answer)
 }

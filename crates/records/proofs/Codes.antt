@@ -80,6 +80,7 @@ module _ (n P N : ℕ) (p : P < 2 ^ 8) (m : N < 2 ^ 8) where
           record {
             pos = lt-of-le-of-lt (or-ge P N) below;
             neg = lt-of-le-of-lt (le-trans (or-ge N P) (le-of-eq (or-comm N P))) below;
-            apart = eqb-true _ _ q }
+            apart = eqb-true _ _ q;
+          }
       go true false p q = absurd (eqb-false 6 0 refl (sym (code-six (eqb-true _ _ p) (eqb-false _ _ q)) ∙ e))
       go false u p q = absurd (eqb-false 5 0 refl (sym (code-five (eqb-false _ _ p)) ∙ e))

@@ -29,7 +29,7 @@ module _ (code : ℕ → ℕ → ℕ) where
   first-each (P ∷ N ∷ l) at e = go (eqb (code P N) 0) refl e (first-each l (at + 2))
     where
       go : (t : Bool) → eqb (code P N) 0 ≡ t → cond t (first-fault code l (at + 2)) (fault (code P N) at) .code ≡ 0
-        → (first-fault code l (at + 2) .code ≡ 0 → Each (λ P N. code P N ≡ 0) l) → (code P N ≡ 0) × Each (λ P N. code P N ≡ 0) l
+          → (first-fault code l (at + 2) .code ≡ 0 → Each (λ P N. code P N ≡ 0) l) → (code P N ≡ 0) × Each (λ P N. code P N ≡ 0) l
       go true q h rest = (eqb-true _ _ q, rest h)
       go false q h rest = absurd (eqb-false _ _ q h)
 
@@ -61,11 +61,11 @@ unfolding clash-code
 clash-width n on off at c d =
     first-same _ _ on at
     (each-map _ _
-      (λ P N p.
-        ap {B = ℕ} (λ (t : Bool). cond t 7 0)
-        (some-same _ _ off
-        (each-map _ _ (λ P′ N′ q. share-masks P N P′ N′ n (p .2) (q .2) (p .1) (q .1) ∙ sym (share-masks P N P′ N′ 8 (p .0) (q .0) (p .1) (q .1))) off d)))
-      on c)
+    (λ P N p.
+    ap {B = ℕ} (λ (t : Bool). cond t 7 0)
+    (some-same _ _ off
+    (each-map _ _ (λ P′ N′ q. share-masks P N P′ N′ n (p .2) (q .2) (p .1) (q .1) ∙ sym (share-masks P N P′ N′ 8 (p .0) (q .0) (p .1) (q .1))) off d)))
+    on c)
 
 -- ---- the lists of a framed record whose cubes have no fault
 

@@ -39,8 +39,9 @@ module _ (t : ℕ → ℕ → Bool) where
   seven-some (P ∷ []) at = refl
   seven-some (P ∷ N ∷ l) at =
       elim (t P N) as (λ b. cond (eqb (cond b 7 0) 0) (first-fault seven l (at + 2)) (fault (cond b 7 0) at) .code ≡ cond (b || some-cube t l) 7 0) [
-        true ↦ refl |
-        false ↦ seven-some l (at + 2) ]
+        | true ↦ refl
+        | false ↦ seven-some l (at + 2)
+      ]
 
 -- each cube of an accepted record has no code
 abbrev pub Coded : ℕ → List ℕ → Type 0
@@ -72,14 +73,14 @@ unfolding record-fault both-on-off
 seven-both s =
     then-elim (λ (f : Fault). f .code ≡ 7 → Both s) _ _
     (λ _.
-      then-elim (λ (f : Fault). f .code ≡ 7 → Both s) _ _
-      (λ _ e. absurd (header-codes (λ (c : ℕ). c ≡ 7 → ⊥) (eqb-false 0 7 refl) s (eqb-false 1 7 refl) (eqb-false 2 7 refl) (eqb-false 3 7 refl) (eqb-false 4 7 refl) (eqb-false 8 7 refl) e))
-      (λ _ e. absurd (first-codes (λ (c : ℕ). c ≡ 7 → ⊥) (eqb-false 0 7 refl) _ _ _ (λ P N. cube-codes (λ (c : ℕ). c ≡ 7 → ⊥) (eqb-false 0 7 refl) _ P N (eqb-false 5 7 refl) (eqb-false 6 7 refl)) e)))
+    then-elim (λ (f : Fault). f .code ≡ 7 → Both s) _ _
+    (λ _ e. absurd (header-codes (λ (c : ℕ). c ≡ 7 → ⊥) (eqb-false 0 7 refl) s (eqb-false 1 7 refl) (eqb-false 2 7 refl) (eqb-false 3 7 refl) (eqb-false 4 7 refl) (eqb-false 8 7 refl) e))
+    (λ _ e. absurd (first-codes (λ (c : ℕ). c ≡ 7 → ⊥) (eqb-false 0 7 refl) _ _ _ (λ P N. cube-codes (λ (c : ℕ). c ≡ 7 → ⊥) (eqb-false 0 7 refl) _ P N (eqb-false 5 7 refl) (eqb-false 6 7 refl)) e)))
     (λ _ e.
-      let w = any-at (both-on-off s) (2 ^ inputs s) (found _ (sym (clash-code-is s) ∙ e)) in
-      let on = some-holds (on-list s) (w .0) in
-      let off = some-holds (off-list s) (w .0) in
-      (w .0, w .1, both-left on off (w .2), both-right on off (w .2)))
+    let w = any-at (both-on-off s) (2 ^ inputs s) (found _ (sym (clash-code-is s) ∙ e)) in
+    let on = some-holds (on-list s) (w .0) in
+    let off = some-holds (off-list s) (w .0) in
+    (w .0, w .1, both-left on off (w .2), both-right on off (w .2)))
   where
     found : (b : Bool) → _≡_ {A = ℕ} (cond b 7 0) 7 → b ≡ true
     found true e = refl
@@ -124,10 +125,10 @@ unfolding inputs-used
 inputs-bound s e =
     count-under _ 8 (inputs s)
     (λ i h used.
-      ⊎-elim
-      (λ (in-on : named i (on-list s) ≡ true). each-some _ (i < inputs s) _ (λ P N. code-names (inputs s) P N i h) (on-list s) (each-on s e) in-on)
-      (λ (in-off : named i (off-list s) ≡ true). each-some _ (i < inputs s) _ (λ P N. code-names (inputs s) P N i h) (off-list s) (each-off s e) in-off)
-      (either (named i (on-list s)) (named i (off-list s)) used))
+    ⊎-elim
+    (λ (in-on : named i (on-list s) ≡ true). each-some _ (i < inputs s) _ (λ P N. code-names (inputs s) P N i h) (on-list s) (each-on s e) in-on)
+    (λ (in-off : named i (off-list s) ≡ true). each-some _ (i < inputs s) _ (λ P N. code-names (inputs s) P N i h) (off-list s) (each-off s e) in-off)
+    (either (named i (on-list s)) (named i (off-list s)) used))
   where
     named : ℕ → List ℕ → Bool
     named i l = some-cube (λ P N. cube-names P N i) l

@@ -26,10 +26,10 @@ module _ (Q : ℕ → Type 0) (q₀ : Q 0) where
   header-codes s q₁ q₂ q₃ q₄ q₈ =
       then-codes Q _ _
       (then-codes Q _ _
-        (then-codes Q _ _
-          (then-codes Q _ _ (then-codes Q _ _ (byte-codes Q s 0 0x46 0x46 2 q₀ q₁ q₂) (byte-codes Q s 1 0x4E 0x4E 2 q₀ q₁ q₂)) (byte-codes Q s 2 1 8 3 q₀ q₁ q₃))
-          (byte-codes Q s 3 0 64 4 q₀ q₁ q₄))
-        (byte-codes Q s 4 0 64 4 q₀ q₁ q₄))
+      (then-codes Q _ _
+      (then-codes Q _ _ (then-codes Q _ _ (byte-codes Q s 0 0x46 0x46 2 q₀ q₁ q₂) (byte-codes Q s 1 0x4E 0x4E 2 q₀ q₁ q₂)) (byte-codes Q s 2 1 8 3 q₀ q₁ q₃))
+      (byte-codes Q s 3 0 64 4 q₀ q₁ q₄))
+      (byte-codes Q s 4 0 64 4 q₀ q₁ q₄))
       (length-codes Q (length s) _ q₀ q₁ q₈)
 
   pub first-codes : (code : ℕ → ℕ → ℕ) (l : List ℕ) (at : ℕ) → ((P N : ℕ) → Q (code P N)) → Q (first-fault code l at .code)
@@ -38,15 +38,17 @@ module _ (Q : ℕ → Type 0) (q₀ : Q 0) where
   first-codes code (P ∷ []) at f = q₀
   first-codes code (P ∷ N ∷ l) at f =
       elim (eqb (code P N) 0) as (λ t. Q (cond t (first-fault code l (at + 2)) (fault (code P N) at) .code)) [
-        true ↦ first-codes code l (at + 2) f |
-        false ↦ f P N ]
+        | true ↦ first-codes code l (at + 2) f
+        | false ↦ f P N
+      ]
 
   pub cube-codes : (n P N : ℕ) → Q 5 → Q 6 → Q (cube-code n P N)
   unfolding cube-code
   cube-codes n P N q₅ q₆ =
       elim (any 8 (λ i. leb n i && cube-names P N i)) as (λ t. Q (cond t 5 (cond (any 8 (λ i. has P i && has N i)) 6 0))) [
-        true ↦ q₅ |
-        false ↦ elim (any 8 (λ i. has P i && has N i)) as (λ t. Q (cond t 6 0)) [ true ↦ q₆ | false ↦ q₀ ] ]
+        | true ↦ q₅
+        | false ↦ elim (any 8 (λ i. has P i && has N i)) as (λ t. Q (cond t 6 0)) [ true ↦ q₆ | false ↦ q₀ ]
+      ]
 
   pub clash-codes : (n : ℕ) (off : List ℕ) (P N : ℕ) → Q 7 → Q (clash-code n off P N)
   unfolding clash-code
@@ -60,8 +62,9 @@ first-within code [] at e = absurd (e refl)
 first-within code (P ∷ []) at e = absurd (e refl)
 first-within code (P ∷ N ∷ l) at e =
     (elim (eqb (code P N) 0) as (λ t. (cond t (first-fault code l (at + 2)) (fault (code P N) at) .code ≡ 0 → ⊥) → cond t (first-fault code l (at + 2)) (fault (code P N) at) .place + 2 ≤ at + length (P ∷ N ∷ l)) [
-      true ↦ λ f. omega (arith, first-within code l (at + 2) f) |
-      false ↦ λ f. omega arith ])
+      | true ↦ λ f. omega (arith, first-within code l (at + 2) f)
+      | false ↦ λ f. omega arith
+    ])
     e
 
 on-end : (s : List ℕ) → Framed s → cubes-at s + length (on-list s) ≤ length s
@@ -77,16 +80,16 @@ unfolding record-fault
 cubes-place s =
     then-elim Placed _ _
     (λ _.
-      then-elim Placed _ _
-      (λ _ e. absurd (false≢true (sym (header-codes (λ (code : ℕ). of-cubes code ≡ false) refl s refl refl refl refl refl) ∙ e)))
-      (λ z e.
-        let h = header-sound s z in
-        let w = first-within (cube-code (inputs s)) (drop (cubes-at s) s) (cubes-at s) (unsound (cubes-fault s) e) in
-        omega (arith, length-drop (cubes-at s) s)))
+    then-elim Placed _ _
+    (λ _ e. absurd (false≢true (sym (header-codes (λ (code : ℕ). of-cubes code ≡ false) refl s refl refl refl refl refl) ∙ e)))
     (λ z e.
-      let h = header-sound s (then-both _ _ z .0) in
-      let w = first-within (clash-code (inputs s) (off-list s)) (on-list s) (cubes-at s) (unsound (clash-fault s) e) in
-      le-trans w (on-end s h))
+    let h = header-sound s z in
+    let w = first-within (cube-code (inputs s)) (drop (cubes-at s) s) (cubes-at s) (unsound (cubes-fault s) e) in
+    omega (arith, length-drop (cubes-at s) s)))
+    (λ z e.
+    let h = header-sound s (then-both _ _ z .0) in
+    let w = first-within (clash-code (inputs s) (off-list s)) (on-list s) (cubes-at s) (unsound (clash-fault s) e) in
+    le-trans w (on-end s h))
   where
     Placed : Fault → Type 0
     Placed f = is-cubes f ≡ true → f .place + 2 ≤ length s

@@ -18,7 +18,7 @@ module _ (code : ℕ → ℕ → ℕ) where
   code-at l at = code (getD l at 0) (getD l (at + 1) 0)
 
   first-step : (l : List ℕ) (at : ℕ) → at + 1 < length l
-    → first-fault code (drop at l) at ≡ cond (eqb (code-at l at) 0) (first-fault code (drop (at + 2) l) (at + 2)) (fault (code-at l at) at)
+      → first-fault code (drop at l) at ≡ cond (eqb (code-at l at) 0) (first-fault code (drop (at + 2) l) (at + 2)) (fault (code-at l at) at)
   unfolding first-fault
   first-step l at h = ap (λ (r : List ℕ). first-fault code r at) (cube-there l at h)
 

@@ -6,7 +6,6 @@ ghost use lib.ListN.{length, drop};
 ghost use denote.Ref.{ptr};
 ghost use Rattle.records.specs.Records.{cube-code, clash-code, first-fault, header-fault, record-fault, reading, summing};
 ghost use Rattle.records.specs.Records.{record-end, on-list as on-bytes, off-list as off-bytes, is-cubes, AtFault};
-
 use answers::Answer;
 use answers::Fault;
 
@@ -80,7 +79,14 @@ pub fn clash_fault(on: &[u8], from: usize, off: &[u8]) -> Fault
 fn header_fault(s: &[u8]) -> Fault
     ensures { λ r. ⌜ r ≡ header-fault (now (s .entry)) ⌝ }
 {
-    let mark = answers::then_byte(answers::byte_fault(s, 0, 0x46, 0x46, 2), s, 1, 0x4E, 0x4E, 2);
+    let mark = answers::then_byte(
+        answers::byte_fault(s, 0, 0x46, 0x46, 2),
+        s,
+        1,
+        0x4E,
+        0x4E,
+        2,
+    );
     let inputs = answers::then_byte(mark, s, 2, 1, 8, 3);
     let counts = answers::then_byte(answers::then_byte(inputs, s, 3, 0, 64, 4), s, 4, 0, 64, 4);
     if counts.code != 0 {

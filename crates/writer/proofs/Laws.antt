@@ -42,7 +42,8 @@ sizes-sound n on off e =
       on-even = omega arith;
       off-even = omega arith;
       on-few = ltb-false _ _ (s₅ .0);
-      off-few = ltb-false _ _ (s₆ .0) }
+      off-few = ltb-false _ _ (s₆ .0);
+    }
   where
     passed : (t : Bool) (code who place : ℕ) (next : Answer) → cond t (refused (suc code) who place) next .code ≡ 0 → (t ≡ false) × (next .code ≡ 0)
     passed true code who place next h = absurd (omega (arith, h))
@@ -59,6 +60,14 @@ fits-short room needed h = simp (lt-ltb _ _ h)
 pub fits-enough : (room needed : ℕ) → needed ≤ room → fits room needed ≡ accepted 3 needed
 unfolding fits
 fits-enough room needed h = simp (le-ltb _ _ h)
+
+pub fits-sound : (room needed : ℕ) → fits room needed .code ≡ 0 → needed ≤ room
+unfolding fits
+fits-sound room needed e = go (ltb room needed) refl e
+  where
+    go : (t : Bool) → ltb room needed ≡ t → cond t (refused 18 4 needed) (accepted 3 needed) .code ≡ 0 → needed ≤ room
+    go true q h = absurd (omega (arith, h))
+    go false q h = ltb-false _ _ q
 
 -- header, on list and off list, stored one after the other
 pub stored : (l header on off : List ℕ) → length header ≡ 5 → sets (sets (sets l 0 header) 5 on) (5 + length on) off ≡ sets l 0 (header ++ (on ++ off))

@@ -7,15 +7,17 @@ use native.Mathlib.Omega.{arith}
 use lib.ListN.{length, getD, take, drop, length-append, length-take, length-drop, take-append-drop}
 use lib.Seq.{take-all, drop-drop, take-at, drop-at}
 use Rattle.cubes.proofs.Lists.{Each}
+use Rattle.answers.specs.declared.Answer.{Answer}
 use Rattle.answers.specs.declared.Fault.{Fault}
-use Rattle.answers.specs.Answers.{accepted, sound, _or-else_}
+use Rattle.answers.specs.Answers.{accepted, _or-else_, Delivered}
 use Rattle.answers.proofs.Faults.{Byte, or-else-next, or-else-both}
+use Rattle.answers.proofs.Stores.{Stands, sets-stands, after-accepted}
 use Rattle.records.specs.Records.{inputs, on-count, off-count, cubes-at, off-at, on-list, off-list, record-end, record-fault, cubes-fault, clash-fault, first-fault, cube-code, clash-code, reading, with-counts}
 use Rattle.records.proofs.Frame.{Header, Framed, Sound, record-sound, record-good, reading-accepted}
 use Rattle.records.proofs.Cubes.{first-each, each-first}
 use Rattle.records.proofs.Meaning.{each-on, each-off}
 use Rattle.writer.specs.Writing.{record-bytes, sizes, cubes, fits, writing}
-use Rattle.writer.proofs.Laws.{Sized, sizes-good, sizes-sound, Right, cubes-good, cubes-right, record-long, fits-enough}
+use Rattle.writer.proofs.Laws.{Sized, sizes-good, sizes-sound, Right, cubes-good, cubes-right, fits-enough, fits-sound}
 
 -- ---- an accepted record, written again
 
@@ -114,8 +116,10 @@ module _ (n : ℕ) (on off : List ℕ) (sized : Sized n on off) where
           mark₁ = record { there = omega arith; least = omega arith; most = omega arith };
           n-byte = record { there = omega arith; least = sized .least; most = sized .most };
           a-byte = record { there = omega arith; least = omega arith; most = omega arith };
-          b-byte = record { there = omega arith; least = omega arith; most = omega arith } };
-        long = omega arith }
+          b-byte = record { there = omega arith; least = omega arith; most = omega arith };
+        };
+        long = omega arith;
+      }
 
   module _ (right : Right n on off) where
     cubes-again : cubes-fault (record-bytes n on off) .code ≡ 0
@@ -147,3 +151,19 @@ written-read n on off room e =
     let sized = sizes-sound n on off (first .0) in
     let right = cubes-right n on off (or-else-both _ _ (first .1) .0) in
     record { answer = read-again n on off sized right; on-cubes = on-again n on off sized; off-cubes = off-again n on off sized }
+
+-- ---- what a caller finds in the buffer
+
+-- where the writer's contract allows an accepted answer, the record stands at the buffer's start
+pub delivered-stands : (n : ℕ) (on off before after : List ℕ) (r : Answer)
+    → Delivered (writing n on off (length before)) (record-bytes n on off) before after r → r .code ≡ 0 → Stands (record-bytes n on off) before after (r .place)
+unfolding writing
+delivered-stands n on off before after r d e =
+    let z : writing n on off (length before) .code ≡ 0 = ap (λ (a : Answer). a .code) (sym (d .returned)) ∙ e in
+    let first = or-else-both _ _ z in
+    let second = or-else-both _ _ (first .1) in
+    let room = fits-sound (length before) (length (record-bytes n on off)) (second .1) in
+    let is = or-else-next _ _ (first .0) ∙ or-else-next _ _ (second .0) ∙ fits-enough _ _ room in
+    subst (λ (place : ℕ). Stands (record-bytes n on off) before after place) (ap (λ (a : Answer). a .place) (sym (d .returned ∙ is)))
+    (subst (λ (l : List ℕ). Stands (record-bytes n on off) before l (length (record-bytes n on off))) (sym (d .buffer ∙ after-accepted _ _ _ z))
+    (sets-stands (record-bytes n on off) before room))

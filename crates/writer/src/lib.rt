@@ -5,7 +5,6 @@ ghost use lib.ListN.{length};
 ghost use lib.Seq.{sets};
 ghost use Rattle.answers.specs.Answers.{Delivered};
 ghost use Rattle.writer.specs.Writing.{record-bytes, sizes, cubes, writing};
-
 use answers::Answer;
 
 // Whether n and the lengths of the lists are right: 3, 19 or 4.

@@ -29,7 +29,8 @@ loop-again c =
     record {
       within = omega arith;
       long = length-set (k .out) _ _ ∙ k .inv .long;
-      rest = store-next (k .out) (a .bytes .now) (a .at) (k .i) (c .before .loop-test .taken) ∙ k .inv .rest }
+      rest = store-next (k .out) (a .bytes .now) (a .at) (k .i) (c .before .loop-test .taken) ∙ k .inv .rest;
+    }
 
 returns : tie.Need-returns Inv-loop μ-loop
 returns c =

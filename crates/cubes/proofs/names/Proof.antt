@@ -35,9 +35,10 @@ more cubes mask at h k =
     record {
       within = omega arith;
       so-far = λ i.
-        k .so-far i ∙ ap (λ (b : Bool). has mask i || b) (some-step (λ P N. cube-names P N i) cubes at h)
-        ∙ sym (or-assoc (has mask i) (cube-names P N i) (named i (drop (at + 2) cubes)))
-        ∙ ap (λ (b : Bool). b || named i (drop (at + 2) cubes)) (sym (has-or (bitOr mask P) N i ∙ ap (λ (b : Bool). b || has N i) (has-or mask P i) ∙ or-assoc (has mask i) (has P i) (has N i))) }
+          k .so-far i ∙ ap (λ (b : Bool). has mask i || b) (some-step (λ P N. cube-names P N i) cubes at h)
+          ∙ sym (or-assoc (has mask i) (cube-names P N i) (named i (drop (at + 2) cubes)))
+          ∙ ap (λ (b : Bool). b || named i (drop (at + 2) cubes)) (sym (has-or (bitOr mask P) N i ∙ ap (λ (b : Bool). b || has N i) (has-or mask P i) ∙ or-assoc (has mask i) (has P i) (has N i)));
+    }
 
 pub names-spec : {M : Type 1} → statement M
 names-spec =
@@ -54,4 +55,4 @@ names-spec =
     (λ c. omega arith)
     (λ c. more _ _ _ (c .before .before .loop-test .taken) (c .before .before .before .loop .inv))
     (λ c. λ i.
-      sym (c .before .loop .inv .so-far i ∙ ap (λ (b : Bool). has (c .before .loop .mask) i || b) (some-end (λ P N. cube-names P N i) _ _ (c .loop-test .left)) ∙ or-false (has (c .before .loop .mask) i))))
+    sym (c .before .loop .inv .so-far i ∙ ap (λ (b : Bool). has (c .before .loop .mask) i || b) (some-end (λ P N. cube-names P N i) _ _ (c .loop-test .left)) ∙ or-false (has (c .before .loop .mask) i))))

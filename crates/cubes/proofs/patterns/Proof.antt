@@ -48,7 +48,8 @@ more cubes n end x held t e h k =
       few = k .few;
       within = omega arith;
       fits = omega (arith, byte-le t);
-      so-far = rw add-one (ap₂ _+_ (k .so-far) (byte-cond t ∙ ap (λ (b : Bool). cond b 1 0) here)) }
+      so-far = rw add-one (ap₂ _+_ (k .so-far) (byte-cond t ∙ ap (λ (b : Bool). cond b 1 0) here));
+    }
 
 abbrev Inv-loop : tie.InvT-loop
 Inv-loop cubes n end x₀ held₀ x held = Counted cubes n end x held

@@ -14,7 +14,8 @@ returns c =
     let e = read .read .ensures in
     record {
       returned = c .packed-mod .ensures ∙ ap (λ (r : Reading). packed-mod (r .answer)) e;
-      slice = stored .store-three .ensures ∙ ap (λ (r : Reading). stored-if-room (counts-of r) (read .before .before .before .args .numbers .now)) e }
+      slice = stored .store-three .ensures ∙ ap (λ (r : Reading). stored-if-room (counts-of r) (read .before .before .before .args .numbers .now)) e;
+    }
 
 pub probe-read-spec : {M : Type 1} → statement M
 probe-read-spec =

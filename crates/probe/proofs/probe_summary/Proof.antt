@@ -14,7 +14,8 @@ returns c =
     let e = read .summary .ensures in
     record {
       returned = c .packed-mod .ensures ∙ ap (λ (r : Figures). packed-mod (r .answer)) e;
-      slice = stored .store-three .ensures ∙ ap (λ (r : Figures). stored-if-room (figures-of r) (read .before .before .before .args .numbers .now)) e }
+      slice = stored .store-three .ensures ∙ ap (λ (r : Figures). stored-if-room (figures-of r) (read .before .before .before .args .numbers .now)) e;
+    }
 
 pub probe-summary-spec : {M : Type 1} → statement M
 probe-summary-spec =

@@ -38,7 +38,8 @@ returns-2 c =
       answer = made .accepted .ensures i;
       on = (c .before .before .before .patterns .ensures ∙ ap (patterns-held n) on) i;
       off = (c .before .patterns2 .ensures ∙ ap (patterns-held n) off) i;
-      used = (c .used .ensures ∙ ap₂ inputs-used on off) i })
+      used = (c .used .ensures ∙ ap₂ inputs-used on off) i;
+    })
 
 pub summary-spec : {M : Type 1} → statement M
 summary-spec =

@@ -17,7 +17,7 @@ code f = f .code
 
 -- both lists are sound, so the code's test against eight inputs is the definition's
 clash : (c : tie.After-clash-fault)
-  → let a = c .before .before .before .before .before .before .before .before .before .args in
+    → let a = c .before .before .before .before .before .before .before .before .before .args in
     c .clash-fault .result ≡ first-fault (clash-code (a .n) (a .off .now)) (a .on .now) 0
 clash c =
     let e₂ = c .before in
@@ -25,8 +25,8 @@ clash c =
     let start = e₁ .before .before .before in
     c .clash-fault .ensures
     ∙ sym (clash-width _ _ _ 0
-      (clean-list _ _ 0 (λ i. start .before .shared-slice-known .given i .fits) (ap code (sym (e₁ .before .before .cubes-fault .ensures)) ∙ e₁ .if1 .left))
-      (clean-list _ _ 0 (λ i. start .shared-slice-known2 .given i .fits) (ap code (sym (e₂ .before .before .cubes-fault2 .ensures)) ∙ e₂ .if2 .left)))
+    (clean-list _ _ 0 (λ i. start .before .shared-slice-known .given i .fits) (ap code (sym (e₁ .before .before .cubes-fault .ensures)) ∙ e₁ .if1 .left))
+    (clean-list _ _ 0 (λ i. start .shared-slice-known2 .given i .fits) (ap code (sym (e₂ .before .before .cubes-fault2 .ensures)) ∙ e₂ .if2 .left)))
 
 returns : tie.Need-returns
 unfolding cubes

@@ -25,7 +25,7 @@ right c = sizes-sound _ _ _ (sized c)
 
 -- after the second the room decides
 by-room : (c : tie.Else2)
-  → let a = c .before .before .before .before .before .before .before .before .before .args in
+    → let a = c .before .before .before .before .before .before .before .before .before .args in
     let needed = 5 + length (a .on .now) + length (a .off .now) in
     (room : ℕ) → writing (a .n) (a .on .now) (a .off .now) room ≡ fits room needed
 unfolding writing

@@ -1,0 +1,1 @@
+// The demands as theorems over the public contracts, and the worked cases. It has no function.
