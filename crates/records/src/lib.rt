@@ -34,10 +34,12 @@ fn cube_code(pos: u8, neg: u8, n: u8) -> u8
     ensures { λ r. ⌜ r ≡ cube-code n pos neg ⌝ }
 {
     let named = pos | neg;
-    if (named as u32) >> n != 0 {
+    let beyond = (named as u32) >> n;
+    let both = pos & neg;
+    if beyond != 0 {
         return 5;
     }
-    if pos & neg != 0 {
+    if both != 0 {
         return 6;
     }
     0
