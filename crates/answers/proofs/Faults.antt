@@ -11,7 +11,6 @@ use lib.ListN.{length, getD}
 use Rattle.answers.specs.declared.Fault.{Fault}
 use Rattle.answers.specs.declared.Answer.{Answer}
 use Rattle.answers.specs.Answers.{fault, sound, refused, _then_, _or-else_, by, byte-fault, length-fault}
-use Rattle.bits.proofs.Below.{both-left, both-right}
 
 -- where the first is sound, the next decides; where it is not, it does
 pub then-next : (f g : Fault) → f .code ≡ 0 → f then g ≡ g

@@ -1,9 +1,9 @@
 -- The numbers of an answer, faults in bytes that are read one after the other, and a lent buffer after an answer.
 -- Document 01, "Numbers returned".
-use Prim.Native.Nat.{ℕ, _+_, _%_, _*_}
+use Prim.Native.Nat.{ℕ, _+_, _*_}
 use mathlib.Core.Path.{_≡_}
-use mathlib.Core.Bool.{Bool, true, false, cond, _&&_}
-use mathlib.Core.List.{List, [], _∷_}
+use mathlib.Core.Bool.{Bool, cond, _&&_}
+use mathlib.Core.List.{List}
 use lib.Dec.{leb, ltb, eqb}
 use lib.ListN.{length, getD}
 use lib.Seq.{sets}

@@ -1,8 +1,8 @@
 -- What the mask tests say of patterns. The idea: a cube holds x where, at each input, P ≤ x and N + x ≤ 1 as bits; the
 -- operators of the code act bit by bit, so each law is one question of arithmetic on single bits.
 use Prim.Native.Nat.{ℕ, _+_, _^_, _≤_, _<_, min, max}
-use mathlib.Core.Path.{_≡_, refl, sym, ap, ap₂, _∙_}
-use mathlib.Core.Bool.{Bool, true, false, _&&_}
+use mathlib.Core.Path.{_≡_, sym, ap, ap₂, _∙_}
+use mathlib.Core.Bool.{Bool, true, _&&_}
 use native.Mathlib.Nat.{lt-of-le-of-lt}
 use native.Mathlib.Omega.{arith}
 use borrow.Author.Tests.{leb-true, le-leb, eqb-true, eq-eqb}

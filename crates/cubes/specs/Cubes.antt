@@ -2,7 +2,7 @@
 -- masks, P and N, of one byte each, so that it can name inputs 0 to 7. A list of cubes is the bytes that it is written in,
 -- P then N of each cube.
 use Prim.Native.Nat.{ℕ, _+_, _^_}
-use mathlib.Core.Bool.{Bool, true, false, not, _&&_, _||_}
+use mathlib.Core.Bool.{Bool, false, not, _&&_, _||_}
 use mathlib.Core.List.{List, [], _∷_}
 use lib.Dec.{leb}
 use Rattle.bits.specs.Bits.{bit, has, every, any, count}

@@ -1,7 +1,6 @@
 // Cubes as masks: tests of one cube, and walks over a list of cubes. Each contract speaks of patterns and inputs; that
 // masks do the same is proved in proofs/.
 ghost use mathlib.Core.Path.{_≡_};
-ghost use mathlib.Core.Bool.{_||_};
 ghost use Prim.Native.Nat.{ℕ, _≤_};
 ghost use Rattle.bits.specs.Bits.{has};
 ghost use Rattle.cubes.specs.Cubes.{cube-holds, cube-names, cubes-share, some-cube, some-holds, patterns-held, inputs-used};

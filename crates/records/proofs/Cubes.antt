@@ -1,7 +1,7 @@
 -- Lists of cubes without a fault, and what code 7 says on patterns.
-use Prim.Native.Nat.{ℕ, _+_, _*_, _^_, _≤_, _<_}
+use Prim.Native.Nat.{ℕ, _+_, _*_, _^_, _<_}
 use mathlib.Core.Path.{_≡_, refl, sym, ap, ap₂, _∙_, subst}
-use mathlib.Core.Bool.{Bool, true, false, cond, _&&_, _||_}
+use mathlib.Core.Bool.{Bool, true, false, cond, _&&_}
 use mathlib.Core.List.{List, [], _∷_}
 use borrow.Author.Tests.{eq-eqb, eqb-true, eqb-false}
 use native.Mathlib.Omega.{arith}
@@ -17,7 +17,7 @@ use Rattle.answers.specs.declared.Fault.{Fault}
 use Rattle.answers.specs.Answers.{fault, sound}
 use Rattle.records.specs.Records.{inputs, on-count, off-count, cubes-at, off-at, on-list, off-list, cube-code, clash-code, first-fault, cubes-fault, clash-fault}
 use Rattle.records.proofs.Frame.{Framed}
-use Rattle.records.proofs.Codes.{Clean, code-clean}
+use Rattle.records.proofs.Codes.{code-clean}
 
 -- ---- a list has no fault exactly when each cube has none
 

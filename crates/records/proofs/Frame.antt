@@ -8,7 +8,7 @@ use borrow.Author.Tests.{eq-eqb, eqb-true}
 use lib.Dec.{eqb}
 use Rattle.answers.specs.declared.Fault.{Fault}
 use Rattle.cubes.specs.Cubes.{patterns-held, inputs-used}
-use Rattle.answers.specs.Answers.{accepted, sound, is-sound, _then_, byte-fault, length-fault}
+use Rattle.answers.specs.Answers.{accepted, sound, is-sound, _then_, length-fault}
 use Rattle.answers.proofs.Faults.{Byte, byte-sound, byte-good, length-sound, length-good, then-both, then-next, then-stop}
 use Rattle.records.specs.declared.Reading.{Reading}
 use Rattle.records.specs.declared.Figures.{Figures}

@@ -1,26 +1,25 @@
 -- What the answers mean on patterns: code 7 is given exactly when some pattern is both on and off, and the summary's numbers
 -- are counts within their bounds.
-use Prim.Native.Nat.{ℕ, suc, _+_, _*_, _^_, _≤_, _<_}
+use Prim.Native.Nat.{ℕ, _+_, _*_, _^_, _≤_, _<_}
 use mathlib.Core.Path.{_≡_, refl, sym, ap, _∙_, subst}
 use mathlib.Core.Bool.{Bool, true, false, cond, _&&_, _||_, false≢true}
 use mathlib.Core.List.{List, [], _∷_}
-use mathlib.Core.Logic.{_⊎_, inl, inr, ⊎-elim}
-use borrow.Author.Tests.{eq-eqb, eqb-true, eqb-false, leb-true, lt-leb, le-leb}
-use native.Mathlib.Omega.{arith}
+use mathlib.Core.Logic.{⊎-elim}
+use borrow.Author.Tests.{eqb-false, le-leb}
 use lib.Dec.{leb, eqb}
-use lib.ListN.{length, getD, take, drop}
+use lib.ListN.{drop}
 use lib.Seq.{drop-drop}
-use Rattle.bits.specs.Bits.{has, any, count}
-use Rattle.bits.proofs.Below.{any-at, any-if, both, both-left, both-right, either, decide, below-or-not, count-apart, count-under}
+use Rattle.bits.specs.Bits.{has, any}
+use Rattle.bits.proofs.Below.{any-at, any-if, both, both-left, both-right, either, below-or-not, count-apart, count-under}
 use Rattle.cubes.specs.Cubes.{cube-names, cubes-share, some-cube, some-holds, patterns-held, inputs-used}
 use Rattle.cubes.proofs.Lists.{Each, each-some, each-take, each-drop}
 use Rattle.answers.specs.declared.Fault.{Fault}
-use Rattle.answers.specs.Answers.{fault, sound, _then_, accepted}
+use Rattle.answers.specs.Answers.{fault}
 use Rattle.answers.proofs.Faults.{then-elim}
-use Rattle.records.specs.Records.{inputs, on-count, off-count, cubes-at, off-at, on-list, off-list, cube-code, clash-code, first-fault, header-fault, cubes-fault, clash-fault, record-fault, summing}
-use Rattle.records.proofs.Frame.{Framed, Sound, record-sound, ends-at-clash}
+use Rattle.records.specs.Records.{inputs, on-count, off-count, cubes-at, off-at, on-list, off-list, cube-code, clash-code, first-fault, header-fault, cubes-fault, clash-fault, record-fault}
+use Rattle.records.proofs.Frame.{record-sound, ends-at-clash}
 use Rattle.records.proofs.Cubes.{first-each, clash-means}
-use Rattle.records.proofs.Places.{header-codes, first-codes, cube-codes, clash-codes}
+use Rattle.records.proofs.Places.{header-codes, first-codes, cube-codes}
 
 -- ---- code 7
 

@@ -1,21 +1,18 @@
 -- Which codes each part of the reading gives, and the place of a cube's fault: two bytes or more before the record's end.
-use Prim.Native.Nat.{ℕ, _+_, _*_, _^_, _≤_, _<_}
-use mathlib.Core.Path.{_≡_, refl, sym, ap, _∙_, subst}
+use Prim.Native.Nat.{ℕ, _+_, _*_, _≤_}
+use mathlib.Core.Path.{_≡_, refl, sym, ap, _∙_}
 use mathlib.Core.Bool.{Bool, true, false, cond, _&&_, false≢true}
 use mathlib.Core.List.{List, [], _∷_}
-use mathlib.Core.Logic.{_⊎_, inl, inr, ⊎-elim}
-use borrow.Author.Tests.{eqb-true, eqb-false}
 use native.Mathlib.Nat.{le-trans}
 use native.Mathlib.Omega.{arith}
 use lib.Dec.{leb, eqb}
-use lib.ListN.{length, getD, take, drop, length-take, length-drop}
+use lib.ListN.{length, drop, length-take, length-drop}
 use Rattle.bits.specs.Bits.{has, any}
-use Rattle.bits.proofs.Below.{decide}
 use Rattle.cubes.specs.Cubes.{cube-names, cubes-share, some-cube}
 use Rattle.answers.specs.declared.Fault.{Fault}
-use Rattle.answers.specs.Answers.{fault, sound, _then_}
+use Rattle.answers.specs.Answers.{fault}
 use Rattle.answers.proofs.Faults.{then-codes, byte-codes, length-codes, then-elim, then-both}
-use Rattle.records.specs.Records.{inputs, on-count, off-count, cubes-at, on-list, off-list, is-cubes, header-bytes, header-fault, cubes-fault, clash-fault, record-fault, first-fault, cube-code, clash-code}
+use Rattle.records.specs.Records.{inputs, on-count, cubes-at, on-list, off-list, is-cubes, header-bytes, header-fault, cubes-fault, clash-fault, record-fault, first-fault, cube-code, clash-code}
 use Rattle.records.proofs.Frame.{Framed, header-sound}
 
 -- ---- codes

@@ -1,5 +1,5 @@
 -- Any two outcomes that a public contract allows are equal.
-use mathlib.Core.Path.{_≡_, sym, _∙_}
+use mathlib.Core.Path.{sym, _∙_}
 use Rattle.settled.specs.Settled.{Settled, SettledAs}
 use Prim.Native.Nat.{ℕ}
 use mathlib.Core.List.{List}

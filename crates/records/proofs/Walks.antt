@@ -1,14 +1,13 @@
 -- The walk that looks for the first cube with a fault: what remains decides.
 use Prim.Native.Nat.{ℕ, _+_, _≤_, _<_}
-use mathlib.Core.Path.{_≡_, refl, sym, ap, _∙_}
-use mathlib.Core.Bool.{Bool, true, false, cond}
+use mathlib.Core.Path.{_≡_, refl, ap, _∙_}
+use mathlib.Core.Bool.{cond}
 use mathlib.Core.List.{List, [], _∷_}
 use borrow.Author.Tests.{eq-eqb, ne-eqb}
 use native.Mathlib.Omega.{arith}
 use lib.Dec.{eqb}
 use lib.ListN.{length, getD, drop, length-drop}
 use Rattle.cubes.proofs.Lists.{cube-there}
-use Rattle.answers.specs.declared.Fault.{Fault}
 use Rattle.answers.specs.Answers.{fault, sound}
 use Rattle.records.specs.Records.{first-fault}
 

@@ -1,6 +1,6 @@
 -- Reading and writing undo each other: an accepted record is written from its own n and lists again, and what the writer
 -- wrote is read with the same n, counts and cubes.
-use Prim.Native.Nat.{ℕ, suc, _+_, _*_, _/_, _%_, _≤_}
+use Prim.Native.Nat.{ℕ, _*_, _/_, _%_, _≤_}
 use mathlib.Core.Path.{_≡_, refl, sym, ap, ap₂, _∙_, subst}
 use mathlib.Core.List.{List, [], _∷_, _++_}
 use native.Mathlib.Omega.{arith}
@@ -9,14 +9,14 @@ use lib.Seq.{take-all, drop-drop, take-at, drop-at}
 use Rattle.cubes.proofs.Lists.{Each}
 use Rattle.answers.specs.declared.Answer.{Answer}
 use Rattle.answers.specs.declared.Fault.{Fault}
-use Rattle.answers.specs.Answers.{accepted, _or-else_, Delivered}
-use Rattle.answers.proofs.Faults.{Byte, or-else-next, or-else-both}
+use Rattle.answers.specs.Answers.{accepted, Delivered}
+use Rattle.answers.proofs.Faults.{or-else-next, or-else-both}
 use Rattle.answers.proofs.Stores.{Stands, sets-stands, after-accepted}
-use Rattle.records.specs.Records.{inputs, on-count, off-count, cubes-at, off-at, on-list, off-list, record-end, record-fault, cubes-fault, clash-fault, first-fault, cube-code, clash-code, reading, with-counts}
-use Rattle.records.proofs.Frame.{Header, Framed, Sound, record-sound, record-good, reading-accepted}
+use Rattle.records.specs.Records.{inputs, on-count, off-count, off-at, on-list, off-list, record-fault, cubes-fault, clash-fault, first-fault, cube-code, clash-code, reading, with-counts}
+use Rattle.records.proofs.Frame.{Framed, record-sound, record-good, reading-accepted}
 use Rattle.records.proofs.Cubes.{first-each, each-first}
 use Rattle.records.proofs.Meaning.{each-on, each-off}
-use Rattle.writer.specs.Writing.{record-bytes, sizes, cubes, fits, writing}
+use Rattle.writer.specs.Writing.{record-bytes, cubes, fits, writing}
 use Rattle.writer.proofs.Laws.{Sized, sizes-good, sizes-sound, Right, cubes-good, cubes-right, fits-enough, fits-sound}
 
 -- ---- an accepted record, written again

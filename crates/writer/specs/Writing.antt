@@ -1,8 +1,8 @@
 -- The writer of function records, in the order of document 01: 3; 19 for the on list, then the off list; 4 likewise; 5 and 6
 -- through the on list, then the off list; 7; 18. Record 1 is the on list, 2 the off list; places count within the list.
-use Prim.Native.Nat.{ℕ, _+_, _/_, _%_}
-use mathlib.Core.Bool.{Bool, true, false, cond}
-use mathlib.Core.List.{List, [], _∷_, _++_}
+use Prim.Native.Nat.{ℕ, _/_, _%_}
+use mathlib.Core.Bool.{cond}
+use mathlib.Core.List.{List, _∷_, _++_}
 use lib.Dec.{ltb, eqb}
 use lib.ListN.{length}
 use Rattle.answers.specs.declared.Answer.{Answer}

@@ -4,7 +4,7 @@ use mathlib.Core.Path.{_≡_, _∙_, sym, ap, refl}
 use mathlib.Core.List.{List}
 use native.Mathlib.Nat.{add-zero}
 use native.Mathlib.Omega.{arith}
-use lib.ListN.{length, drop, getD, set, length-set, drop-of-length-le}
+use lib.ListN.{length, drop, length-set, drop-of-length-le}
 use lib.Seq.{sets}
 use Prim.Native.Nat.{ℕ}
 use Rattle.answers.proofs.Stores.{store-next}

@@ -1,6 +1,6 @@
 -- The ones of the collected mask are counted, bit by bit.
-use mathlib.Core.Path.{_≡_, _∙_, ap₂}
-use mathlib.Core.Bool.{Bool, _||_}
+use mathlib.Core.Path.{_∙_, ap₂}
+use mathlib.Core.Bool.{_||_}
 use borrow.Author.Needs.{needs}
 use lib.Bits.{or-lt}
 use Rattle.bits.proofs.Below.{count-same}

@@ -1,11 +1,9 @@
 -- The part is copied if it fits; its bytes are those at fault.
-use Prim.Native.Nat.{ℕ, _<_, _≤_}
-use mathlib.Core.Path.{_≡_, _∙_, sym, ap, subst}
+use Prim.Native.Nat.{ℕ}
+use mathlib.Core.Path.{_∙_, sym, ap}
 use mathlib.Core.List.{List}
 use borrow.Author.Needs.{needs}
-use native.Mathlib.Omega.{arith}
 use lib.ListN.{length}
-use lib.Seq.{sets}
 use Rattle.probe.specs.Probe.{stored-if-room}
 use Rattle.probe.proofs.Laws.{stored-with-room, stored-without-room}
 use Rattle.probe.proofs.probe_fault.Statement.{statement}

@@ -1,6 +1,5 @@
 -- The numbers are stored and the answer is packed, as the call below says.
-use mathlib.Core.Path.{_≡_, _∙_, ap}
-use mathlib.Core.List.{List}
+use mathlib.Core.Path.{_∙_, ap}
 use borrow.Author.Needs.{needs}
 use Rattle.records.specs.declared.Figures.{Figures}
 use Rattle.probe.specs.Probe.{packed-mod, stored-if-room, figures-of}

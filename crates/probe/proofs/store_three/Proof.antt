@@ -1,7 +1,6 @@
 -- Three stores in a row, or none.
 use mathlib.Core.Path.{sym}
 use mathlib.Core.List.{[], _∷_}
-use borrow.Author.Needs.{needs}
 use native.Mathlib.Omega.{arith}
 use lib.ListN.{length-set}
 use Rattle.probe.proofs.Laws.{stored-with-room, stored-without-room}

@@ -1,7 +1,7 @@
 -- The faults of f and g say which part of which record is handed back.
 use Prim.Native.Nat.{ℕ, _+_, _-_, _≤_}
-use mathlib.Core.Path.{_≡_, refl, _∙_, sym, ap, subst}
-use mathlib.Core.Bool.{Bool, true, false, cond, _&&_}
+use mathlib.Core.Path.{_≡_, _∙_, sym, ap, subst}
+use mathlib.Core.Bool.{Bool, true, false}
 use mathlib.Core.List.{List, []}
 use borrow.Author.Needs.{needs}
 use borrow.Author.Tests.{eq-eqb, ne-eqb}
@@ -9,7 +9,6 @@ use native.Mathlib.Nat.{add-sub-cancel-left}
 use native.Mathlib.Omega.{arith}
 use lib.ListN.{length, take, drop}
 use Rattle.answers.specs.declared.Fault.{Fault}
-use Rattle.answers.specs.Answers.{is-sound}
 use Rattle.records.specs.Records.{is-cubes, record-fault, bytes-at-fault, memory-at-fault, AtFault}
 use Rattle.records.proofs.Places.{cubes-place, sound-no-cube}
 use Rattle.records.proofs.at_fault.Statement.{statement}

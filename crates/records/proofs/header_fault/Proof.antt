@@ -2,11 +2,10 @@
 use mathlib.Core.Path.{_≡_, _∙_, sym, ap}
 use borrow.Author.Needs.{needs}
 use native.Mathlib.Omega.{arith}
-use lib.ListN.{length}
 use Rattle.answers.specs.declared.Fault.{Fault}
-use Rattle.answers.specs.Answers.{_then_, byte-fault, length-fault}
+use Rattle.answers.specs.Answers.{length-fault}
 use Rattle.answers.proofs.Faults.{then-next, then-stop}
-use Rattle.records.specs.Records.{header-bytes, header-fault, record-end}
+use Rattle.records.specs.Records.{header-bytes, header-fault}
 use Rattle.records.proofs.Frame.{Header, bytes-sound}
 use Rattle.records.proofs.header_fault.Statement.{statement}
 use Rattle.records.proofs.header_fault.Tie as tie

@@ -1,8 +1,8 @@
 -- The part from the off list's start to the end.
-use Prim.Native.Nat.{ℕ, _+_, _-_, _*_}
+use Prim.Native.Nat.{ℕ, _-_, _*_}
 use mathlib.Core.Path.{_≡_, ap}
 use native.Mathlib.Omega.{arith}
-use lib.ListN.{take, drop, getD, length}
+use lib.ListN.{take, drop, length}
 use Rattle.records.specs.Records.{off-list, off-at, off-count}
 use Rattle.records.proofs.off_list.Statement.{statement}
 use Rattle.records.proofs.off_list.Tie as tie

@@ -7,7 +7,7 @@ use Rattle.answers.specs.Answers.{refused}
 use Rattle.answers.specs.declared.Answer.{Answer}
 use Rattle.answers.specs.declared.Fault.{Fault}
 use Rattle.records.specs.Records.{with-counts, reading, record-fault, inputs, on-count, off-count}
-use Rattle.records.proofs.Frame.{Sound, record-sound}
+use Rattle.records.proofs.Frame.{record-sound}
 use Rattle.records.proofs.read.Statement.{statement}
 use Rattle.records.proofs.read.Tie as tie
 

@@ -1,12 +1,12 @@
 -- The header, the cubes in order, then the on cubes against the off cubes.
-use Prim.Native.Nat.{ℕ, _+_, _*_}
-use mathlib.Core.Path.{_≡_, refl, _∙_, sym, ap, ap₂}
+use Prim.Native.Nat.{ℕ}
+use mathlib.Core.Path.{_≡_, _∙_, sym, ap}
 use mathlib.Core.List.{List}
 use borrow.Author.Needs.{needs}
 use native.Mathlib.Omega.{arith}
-use lib.ListN.{take, drop, getD, length}
+use lib.ListN.{take, drop}
 use Rattle.answers.specs.declared.Fault.{Fault}
-use Rattle.records.specs.Records.{inputs, off-at, on-list, off-list, header-fault, cubes-fault, clash-fault, clash-code, first-fault}
+use Rattle.records.specs.Records.{off-at, off-list, header-fault, cubes-fault, clash-fault, clash-code, first-fault}
 use Rattle.records.proofs.Frame.{Framed, header-sound, ends-at-header, ends-at-cubes, ends-at-clash}
 use Rattle.records.proofs.Cubes.{front-long, clash-by-code}
 use Rattle.records.proofs.record_fault.Statement.{statement}

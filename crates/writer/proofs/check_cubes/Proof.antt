@@ -1,12 +1,11 @@
 -- The on list, the off list, then the one against the other.
 use Prim.Native.Nat.{ℕ}
 use mathlib.Core.Path.{_≡_, _∙_, sym, ap}
-use mathlib.Core.List.{List}
 use borrow.Author.Needs.{needs}
 use native.Mathlib.Omega.{arith}
 use Rattle.answers.specs.declared.Fault.{Fault}
 use Rattle.answers.proofs.Faults.{by-next, by-stop}
-use Rattle.records.specs.Records.{first-fault, cube-code, clash-code}
+use Rattle.records.specs.Records.{first-fault, clash-code}
 use Rattle.records.proofs.Cubes.{clean-list, clash-width}
 use Rattle.writer.specs.Writing.{cubes}
 use Rattle.writer.proofs.check_cubes.Statement.{statement}
