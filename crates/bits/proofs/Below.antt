@@ -1,79 +1,12 @@
 -- Tests of every number below a bound: `every`, `any` and `count` say what they seem to.
 use Prim.Native.Nat.{ℕ, zero, suc, _+_, _≤_, _<_}
 use mathlib.Core.Path.{_≡_, refl, sym, ap, ap₂, _∙_}
-use mathlib.Core.Bool.{Bool, true, false, cond, _&&_, _||_, false≢true}
-use mathlib.Core.Logic.{_⊎_, inl, inr, ⊎-elim}
+use mathlib.Core.Bool.{Bool, true, false, cond, _||_, false≢true}
+use mathlib.Core.Logic.{_⊎_, ⊎-elim}
 use native.Mathlib.Nat.{le-refl, le-step, add-assoc, le-of-suc-le-suc, not-suc-le-zero, eq-or-lt-of-le}
-use borrow.Author.Tests.{ltb-true, ltb-false}
-use lib.Dec.{ltb}
 use native.Mathlib.Omega.{arith}
 use Rattle.bits.specs.Bits.{every, any, count}
-
--- ---- Bool: what a joined test says of its parts
-
-pub both-left : (a b : Bool) → a && b ≡ true → a ≡ true
-both-left true b e = refl
-both-left false b e = e
-
-pub both-right : (a b : Bool) → a && b ≡ true → b ≡ true
-both-right true b e = e
-both-right false b e = absurd (false≢true e)
-
-pub both : {a b : Bool} → a ≡ true → b ≡ true → a && b ≡ true
-both {a} {b} p q = ap₂ _&&_ p q
-
-pub either : (a b : Bool) → a || b ≡ true → (a ≡ true) ⊎ (b ≡ true)
-either true b e = inl refl
-either false b e = inr e
-
-pub or-left : {a : Bool} (b : Bool) → a ≡ true → a || b ≡ true
-or-left b p = ap (λ (x : Bool). x || b) p
-
-pub or-right : (a : Bool) {b : Bool} → b ≡ true → a || b ≡ true
-or-right true p = refl
-or-right false p = p
-
-pub or-assoc : (a b c : Bool) → a || b || c ≡ a || (b || c)
-or-assoc true b c = refl
-or-assoc false b c = refl
-
-pub or-false : (a : Bool) → a || false ≡ a
-or-false true = refl
-or-false false = refl
-
-pub and-false : (a : Bool) → a && false ≡ false
-and-false true = refl
-and-false false = refl
-
-pub and-comm : (a b : Bool) → a && b ≡ b && a
-and-comm true true = refl
-and-comm true false = refl
-and-comm false true = refl
-and-comm false false = refl
-
-pub and-or : (a b c : Bool) → a && (b || c) ≡ a && b || a && c
-and-or true b c = refl
-and-or false b c = refl
-
--- two tests are equal where each passes if the other does
-pub same-test : (a b : Bool) → (a ≡ true → b ≡ true) → (b ≡ true → a ≡ true) → a ≡ b
-same-test true b f g = sym (f refl)
-same-test false true f g = g refl
-same-test false false f g = refl
-
--- a test either passes or fails, with the equation that says so
-pub decide : (a : Bool) → (a ≡ true) ⊎ (a ≡ false)
-decide true = inl refl
-decide false = inr refl
-
--- a number is below another, or at least it
-pub below-or-not : (a b : ℕ) → (a < b) ⊎ (b ≤ a)
-below-or-not a b = ⊎-elim (λ e. inl (ltb-true a b e)) (λ e. inr (ltb-false a b e)) (decide (ltb a b))
-
--- a test that cannot pass fails
-pub not-passed : (a : Bool) → (a ≡ true → ⊥) → a ≡ false
-not-passed true f = absurd (f refl)
-not-passed false f = refl
+use Rattle.bits.proofs.Tests.{both-left, both-right, both, either, or-left, or-right, same-test, not-passed}
 
 -- ---- below a bound
 

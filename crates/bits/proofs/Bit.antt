@@ -1,20 +1,21 @@
 -- Laws of bits, over any width: what each operator of the code does to bit i, and how bits decide equality and order.
 -- The idea: bit i of x is the lowest bit of x / 2^i, and every operator of the language goes through a shift.
-use Prim.Native.Nat.{ℕ, zero, suc, _+_, _/_, _%_, _^_, _≤_, _<_, suc-le-suc, min, max}
+use Prim.Native.Nat.{ℕ, zero, suc, _+_, _-_, _*_, _/_, _%_, _^_, _≤_, _<_, zero-le, suc-le-suc, min, max}
 use mathlib.Core.Path.{_≡_, refl, sym, ap, ap₂, _∙_, subst, subst₂}
 use mathlib.Core.Bool.{Bool, true, false, cond, not, _&&_, _||_, false≢true}
 use mathlib.Core.Logic.{⊎-elim}
-use native.Mathlib.Nat.{le-trans, le-antisymm, le-of-eq, le-of-suc-le-suc, not-suc-le-zero, mod-lt, zero-lt-suc, zero-div, div-eq-of-lt, div-one, zero-min, zero-max, max-eq-left}
+use native.Mathlib.Nat.{le-trans, le-antisymm, le-of-eq, le-of-suc-le-suc, not-suc-le-zero, mod-lt, zero-lt-suc, zero-div, div-eq-of-lt, div-one, zero-min, zero-max, max-eq-left, mul-assoc, one-mul, add-zero, pow-suc, eq-or-lt-of-le, le-refl, mul-le-mul-right, mod-eq-of-lt}
 use native.Mathlib.Numerals.{add-one}
 use native.Mathlib.Omega.{arith}
-use borrow.Author.Tests.{eq-eqb, eqb-true, eqb-false}
-use lib.Bits.{bitAnd, bitOr, and-step, or-step, and-shr, or-shr}
+use borrow.Author.Tests.{eq-eqb, ne-eqb, eqb-true, eqb-false}
+use lib.Bits.{bitAnd, bitOr, bitXor, differ, and-step, or-step, xor-step, and-shr, or-shr, xor-shr, shifted-even}
 use lib.Dec.{eqb}
 use lib.Arith.{lt-one}
-use lib.Pow.{pow-pos, pow-mono, shr-lt, shr-shr}
+use lib.Pow.{pow-pos, pow-mono, pow-lt, pow-add, shr-lt, shr-shr, shl-shr, field, mod-mod-pow, high, low}
 use lib.Count.{ones, ones-step}
-use Rattle.bits.specs.Bits.{bit, has, any, count}
-use Rattle.bits.proofs.Below.{any-if, any-none, decide, count-low, count-same}
+use Rattle.bits.specs.Bits.{bit, has, number, any, count}
+use Rattle.bits.proofs.Tests.{decide, below-or-not}
+use Rattle.bits.proofs.Below.{below-suc, any-if, any-none, count-low, count-same}
 
 -- a bit is 0 or 1
 pub bit-le : (i x : ℕ) → bit i x ≤ 1
@@ -47,6 +48,22 @@ pub bit-or : (i a b : ℕ) → bit i (bitOr a b) ≡ max (bit i a) (bit i b)
 unfolding bit
 bit-or i a b = ap (λ (n : ℕ). n % 2) (or-shr a b i) ∙ omega (arith, or-step (a / 2 ^ i) (b / 2 ^ i))
 
+pub bit-xor : (i a b : ℕ) → bit i (bitXor a b) ≡ differ (bit i a) (bit i b)
+unfolding bit
+bit-xor i a b =
+    ap (λ (n : ℕ). n % 2) (xor-shr a b i)
+    ∙ low (bitXor (a / 2 ^ i / 2) (b / 2 ^ i / 2)) (xor-step (a / 2 ^ i) (b / 2 ^ i)) (one (a / 2 ^ i % 2) (b / 2 ^ i % 2) (bit-le i a) (bit-le i b))
+  where
+    low : {x d : ℕ} (h : ℕ) → x ≡ h * 2 + d → d ≤ 1 → x % 2 ≡ d
+    low h e l = omega arith
+
+    one : (x y : ℕ) → x ≤ 1 → y ≤ 1 → differ x y ≤ 1
+    one zero y h k = k
+    one (suc x) zero h k = h
+    one (suc zero) (suc zero) h k = zero-le
+    one (suc zero) (suc (suc y)) h k = absurd (not-suc-le-zero (le-of-suc-le-suc k))
+    one (suc (suc x)) (suc y) h k = absurd (not-suc-le-zero (le-of-suc-le-suc h))
+
 -- the same, of the test whether a bit is 1
 pub has-or : (a b i : ℕ) → has (bitOr a b) i ≡ has a i || has b i
 has-or a b i = ap (λ (n : ℕ). eqb n 1) (bit-or i a b) ∙ go (bit i a) (bit i b) (bit-le i a) (bit-le i b)
@@ -70,11 +87,63 @@ pub bit-shr : (i k x : ℕ) → bit i (x / 2 ^ k) ≡ bit (k + i) x
 unfolding bit
 bit-shr i k x = ap (λ (n : ℕ). n % 2) (shr-shr x k i)
 
+pub bit-shl : (i k x : ℕ) → bit (k + i) (x * 2 ^ k) ≡ bit i x
+unfolding bit
+bit-shl i k x = ap (λ (n : ℕ). n % 2) (sym (shr-shr (x * 2 ^ k) k i) ∙ ap (λ (n : ℕ). n / 2 ^ i) (shl-shr x k))
+
+-- the bits below a shift are 0
+pub bit-shl-low : (i k x : ℕ) → i < k → bit i (x * 2 ^ k) ≡ 0
+unfolding bit
+bit-shl-low i k x h =
+    let d = k - suc i in
+    let e : x * 2 ^ k ≡ x * 2 ^ suc d * 2 ^ i = ap (λ (m : ℕ). x * 2 ^ m) (omega arith) ∙ ap (λ (m : ℕ). x * m) (pow-add 2 (suc d) i) ∙ sym (mul-assoc x (2 ^ suc d) (2 ^ i)) in
+    ap (λ (n : ℕ). n / 2 ^ i % 2) e ∙ ap (λ (n : ℕ). n % 2) (shl-shr (x * 2 ^ suc d) i) ∙ shifted-even x d
+
+-- cutting a number at bit k keeps the bits below
+pub bit-mod : (i k x : ℕ) → i < k → bit i (x % 2 ^ k) ≡ bit i x
+unfolding bit
+bit-mod i k x h =
+    let d = k - suc i in
+    let e : k ≡ d + 1 + i = omega arith in
+    ap (λ (m : ℕ). x % 2 ^ m / 2 ^ i % 2) e ∙ ap (λ (n : ℕ). n % 2) (field x (d + 1) i) ∙ mod-mod-pow (x / 2 ^ i) d 1
+
 -- ---- bits decide: equality with 0, order, equality
 
 pub bit-above : (i : ℕ) {x : ℕ} (k : ℕ) → x < 2 ^ k → k ≤ i → bit i x ≡ 0
 unfolding bit
 bit-above i k h l = ap (λ (n : ℕ). n % 2) (div-eq-of-lt (le-trans h (pow-mono l)))
+
+-- one bit alone
+pub bit-pow : (i j : ℕ) → bit i (2 ^ j) ≡ cond (eqb i j) 1 0
+bit-pow i j = ⊎-elim below (λ h. ⊎-elim same above (eq-or-lt-of-le h)) (below-or-not i j)
+  where
+    whole : 1 * 2 ^ j ≡ 2 ^ j
+    whole = one-mul (2 ^ j)
+
+    below : i < j → bit i (2 ^ j) ≡ cond (eqb i j) 1 0
+    below h = simp (ne-eqb i j (λ e. omega arith)) (ap (bit i) (sym whole) ∙ bit-shl-low i j 1 h)
+
+    same : j ≡ i → bit i (2 ^ j) ≡ cond (eqb i j) 1 0
+    same e = simp (eq-eqb i j (sym e)) (ap₂ (λ (k n : ℕ). bit k n) (sym e ∙ sym (add-zero j)) (sym whole) ∙ bit-shl 0 j 1 ∙ bit-low 1)
+
+    above : j < i → bit i (2 ^ j) ≡ cond (eqb i j) 1 0
+    above h = simp (ne-eqb i j (λ e. omega arith)) (bit-above i (suc j) (pow-lt (le-refl (suc j))) h)
+
+-- a bit set in a mask
+pub bit-set : (i j x : ℕ) → bit i (bitOr x (2 ^ j)) ≡ max (bit i x) (cond (eqb i j) 1 0)
+bit-set i j x = bit-or i x (2 ^ j) ∙ ap (max (bit i x)) (bit-pow i j)
+
+-- all bits of a width turned round
+pub bit-not : (w i x : ℕ) → x < 2 ^ w → i < w → bit i (2 ^ w - 1 - x) + bit i x ≡ 1
+bit-not zero i x h l = absurd (not-suc-le-zero l)
+bit-not (suc w) zero x h l =
+    let p = pow-suc 2 w in
+    ap₂ _+_ (bit-low (2 ^ suc w - 1 - x)) (bit-low x) ∙ omega (arith, p)
+bit-not (suc w) (suc i) x h l =
+    let p = pow-suc 2 w in
+    let half : x / 2 < 2 ^ w = omega (arith, p) in
+    let turned : (2 ^ suc w - 1 - x) / 2 ≡ 2 ^ w - 1 - x / 2 = omega (arith, p) in
+    ap₂ _+_ (bit-suc i (2 ^ suc w - 1 - x) ∙ ap (bit i) turned) (bit-suc i x) ∙ bit-not w i (x / 2) half (le-of-suc-le-suc l)
 
 -- where each bit of x is at most y's, x is at most y
 pub bits-le : (k x y : ℕ) → x < 2 ^ k → ((i : ℕ) → i < k → bit i x ≤ bit i y) → x ≤ y
@@ -126,3 +195,26 @@ ones-count zero x h = ap ones (lt-one h)
 ones-count (suc k) x h =
     let up = ones-count k (x / 2) (shr-lt k 1 (subst (λ (m : ℕ). x < 2 ^ m) (sym (add-one k)) h)) in
     ones-step x ∙ ap₂ _+_ (sym (counted x 0 ∙ bit-low x)) (up ∙ count-same (has (x / 2)) (λ i. has x (suc i)) k (λ i l. ap (λ (b : ℕ). eqb b 1) (sym (bit-suc i x)))) ∙ sym (count-low (has x) k)
+
+-- ---- the number with given bits
+
+bit-top : (b k : ℕ) {rest : ℕ} → rest < 2 ^ k → b ≤ 1 → bit k (b * 2 ^ k + rest) ≡ b
+unfolding bit
+bit-top b k h l = ap (λ (n : ℕ). n % 2) (high b k h) ∙ mod-eq-of-lt (suc-le-suc l)
+
+module _ (f : ℕ → ℕ) (small : (i : ℕ) → f i ≤ 1) where
+  pub number-lt : (k : ℕ) → number k f < 2 ^ k
+  unfolding number
+  number-lt zero = omega arith
+  number-lt (suc k) = omega (arith, number-lt k, mul-le-mul-right (2 ^ k) (small k), pow-suc 2 k)
+
+  pub number-bit : (k i : ℕ) → i < k → bit i (number k f) ≡ f i
+  unfolding number
+  number-bit zero i h = absurd (not-suc-le-zero h)
+  number-bit (suc k) i h = ⊎-elim top (λ l. lower l (number-bit k i l)) (below-suc h)
+    where
+      top : i ≡ k → bit i (f k * 2 ^ k + number k f) ≡ f i
+      top e = ap (λ (j : ℕ). bit j (f k * 2 ^ k + number k f)) e ∙ bit-top (f k) k (number-lt k) (small k) ∙ ap f (sym e)
+
+      lower : i < k → bit i (number k f) ≡ f i → bit i (f k * 2 ^ k + number k f) ≡ f i
+      lower l e = sym (bit-mod i k (f k * 2 ^ k + number k f) l) ∙ ap (bit i) (low (f k) k (number-lt k)) ∙ e

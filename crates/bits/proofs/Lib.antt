@@ -1,2 +1,3 @@
-pub mod Bit
+pub mod Tests
 pub mod Below
+pub mod Bit

@@ -1,5 +1,5 @@
 -- Bits of a number, and tests of every number below a bound. All of it is executable.
-use Prim.Native.Nat.{ℕ, zero, suc, _+_, _/_, _%_, _^_}
+use Prim.Native.Nat.{ℕ, zero, suc, _+_, _*_, _/_, _%_, _^_}
 use mathlib.Core.Bool.{Bool, true, false, cond, _&&_, _||_}
 use lib.Dec.{eqb}
 
@@ -10,6 +10,11 @@ bit i x = x / 2 ^ i % 2
 -- whether bit i of x is 1
 abbrev pub has : ℕ → ℕ → Bool
 has x i = eqb (bit i x) 1
+
+-- the number below 2^k whose bit i is f i, where f gives 0 or 1
+unfoldable pub number : ℕ → (ℕ → ℕ) → ℕ
+number zero f = 0
+number (suc k) f = f k * 2 ^ k + number k f
 
 -- whether the test passes at every number below n
 unfoldable pub every : ℕ → (ℕ → Bool) → Bool

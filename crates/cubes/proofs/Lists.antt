@@ -9,7 +9,8 @@ use native.Mathlib.Numerals.{add-one, add-two}
 use native.Mathlib.Omega.{arith}
 use lib.ListN.{length, getD, take, drop, length-drop}
 use lib.Seq.{drop-cons}
-use Rattle.bits.proofs.Below.{or-left, either, and-false, and-or, any-or, any-never}
+use Rattle.bits.proofs.Tests.{or-left, either, and-false, and-or}
+use Rattle.bits.proofs.Below.{any-or, any-never}
 use Rattle.bits.specs.Bits.{any}
 use Rattle.cubes.specs.Cubes.{some-cube}
 

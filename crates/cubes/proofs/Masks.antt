@@ -9,7 +9,8 @@ use borrow.Author.Tests.{leb-true, le-leb, eqb-true, eq-eqb}
 use lib.Bits.{bitAnd, bitOr, and-le-l, and-le-r, or-lt}
 use lib.Dec.{leb, eqb}
 use Rattle.bits.specs.Bits.{bit}
-use Rattle.bits.proofs.Below.{every-at, every-if, any-at, any-if, both, both-left, both-right, same-test}
+use Rattle.bits.proofs.Tests.{both, both-left, both-right, same-test}
+use Rattle.bits.proofs.Below.{every-at, every-if, any-at, any-if}
 use Rattle.bits.proofs.Bit.{bit-le, bit-and, bit-or, bit-zero, bits-eq, bits-zero}
 use Rattle.cubes.specs.Cubes.{meets, cube-holds, cubes-share}
 

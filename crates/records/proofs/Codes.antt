@@ -11,7 +11,8 @@ use lib.Bits.{bitAnd, bitOr, and-le-l, and-le-r, or-lt, or-comm, or-add-and}
 use lib.Dec.{leb, eqb}
 use lib.Pow.{pow-pos}
 use Rattle.bits.specs.Bits.{bit, has, any}
-use Rattle.bits.proofs.Below.{any-at, any-if, any-same, both, both-left, both-right, same-test, below-or-not}
+use Rattle.bits.proofs.Tests.{both, both-left, both-right, same-test, below-or-not}
+use Rattle.bits.proofs.Below.{any-at, any-if, any-same}
 use Rattle.bits.proofs.Bit.{bit-shr, bit-above, has-or, has-and, any-bit}
 use Rattle.cubes.specs.Cubes.{cube-names}
 use Rattle.records.specs.Records.{cube-code}

@@ -9,7 +9,8 @@ use lib.Dec.{eqb}
 use lib.ListN.{length, getD, take, drop}
 use lib.Seq.{take-add, drop-at, drop-drop, getD-drop, length-take-le}
 use Rattle.bits.specs.Bits.{any}
-use Rattle.bits.proofs.Below.{any-same, and-comm}
+use Rattle.bits.proofs.Tests.{and-comm}
+use Rattle.bits.proofs.Below.{any-same}
 use Rattle.cubes.specs.Cubes.{cube-holds, cubes-share, some-cube, some-holds}
 use Rattle.cubes.proofs.Masks.{share-masks}
 use Rattle.cubes.proofs.Lists.{Each, each-all, each-map, each-bytes, each-take, each-drop, some-same, some-any, some-and}

@@ -10,7 +10,8 @@ use lib.Dec.{leb, eqb}
 use lib.ListN.{drop}
 use lib.Seq.{drop-drop}
 use Rattle.bits.specs.Bits.{has, any}
-use Rattle.bits.proofs.Below.{any-at, any-if, both, both-left, both-right, either, below-or-not, count-apart, count-under}
+use Rattle.bits.proofs.Tests.{both, both-left, both-right, either, below-or-not}
+use Rattle.bits.proofs.Below.{any-at, any-if, count-apart, count-under}
 use Rattle.cubes.specs.Cubes.{cube-names, cubes-share, some-cube, some-holds, patterns-held, inputs-used}
 use Rattle.cubes.proofs.Lists.{Each, each-some, each-take, each-drop}
 use Rattle.answers.specs.declared.Fault.{Fault}

@@ -8,7 +8,7 @@ use lib.Bits.{bitOr}
 use lib.ListN.{length, drop, getD}
 use Rattle.bits.specs.Bits.{has}
 use Rattle.bits.proofs.Bit.{has-or, has-zero}
-use Rattle.bits.proofs.Below.{or-assoc, or-false}
+use Rattle.bits.proofs.Tests.{or-assoc, or-false}
 use Rattle.cubes.specs.Cubes.{some-cube, cube-names}
 use Rattle.cubes.proofs.Lists.{some-step, some-end}
 use Rattle.cubes.proofs.names.Statement.{statement}
