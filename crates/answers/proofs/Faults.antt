@@ -12,6 +12,13 @@ use Rattle.answers.specs.declared.Fault.{Fault}
 use Rattle.answers.specs.declared.Answer.{Answer}
 use Rattle.answers.specs.Answers.{fault, sound, refused, _then_, _or-else_, by, byte-fault, length-fault}
 
+-- a fault that was found is what the definition says: both are sound, or neither is
+pub sound-as : {f g : Fault} → f ≡ g → f .code ≡ 0 → g .code ≡ 0
+sound-as e z = ap (λ (f : Fault). f .code) (sym e) ∙ z
+
+pub bad-as : {f g : Fault} → f ≡ g → (f .code ≡ 0 → ⊥) → g .code ≡ 0 → ⊥
+bad-as e bad z = bad (ap (λ (f : Fault). f .code) e ∙ z)
+
 -- where the first is sound, the next decides; where it is not, it does
 pub then-next : (f g : Fault) → f .code ≡ 0 → f then g ≡ g
 unfolding _then_
@@ -25,13 +32,13 @@ then-stop f g e = ap (λ (t : Bool). cond t g f) (ne-eqb _ _ e)
 pub by-next : (who : ℕ) (f g : Fault) (a next : Answer) → f ≡ g → f .code ≡ 0 → a ≡ next → a ≡ by who g next
 unfolding by
 by-next who f g a next e z h =
-    h ∙ sym (ap (λ (t : Bool). cond t next (refused (g .code) who (g .place))) (eq-eqb _ _ (ap (λ (f : Fault). f .code) (sym e) ∙ z)))
+    h ∙ sym (ap (λ (t : Bool). cond t next (refused (g .code) who (g .place))) (eq-eqb _ _ (sound-as e z)))
 
 pub by-stop : (who : ℕ) (f g : Fault) (a next : Answer) → f ≡ g → (f .code ≡ 0 → ⊥) → a ≡ refused (f .code) who (f .place) → a ≡ by who g next
 unfolding by
 by-stop who f g a next e z h =
     h ∙ ap (λ (f : Fault). refused (f .code) who (f .place)) e
-    ∙ sym (ap (λ (t : Bool). cond t next (refused (g .code) who (g .place))) (ne-eqb _ _ (λ z′. z (ap (λ (f : Fault). f .code) e ∙ z′))))
+    ∙ sym (ap (λ (t : Bool). cond t next (refused (g .code) who (g .place))) (ne-eqb _ _ (bad-as e z)))
 
 pub or-else-next : (a b : Answer) → a .code ≡ 0 → a or-else b ≡ b
 unfolding _or-else_

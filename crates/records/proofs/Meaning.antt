@@ -2,7 +2,7 @@
 -- are counts within their bounds.
 use Prim.Native.Nat.{ℕ, _+_, _*_, _^_, _≤_, _<_}
 use mathlib.Core.Path.{_≡_, refl, sym, ap, _∙_, subst}
-use mathlib.Core.Bool.{Bool, true, false, cond, _&&_, _||_, false≢true}
+use mathlib.Core.Bool.{Bool, true, false, cond, not, _&&_, _||_, false≢true}
 use mathlib.Core.List.{List, [], _∷_}
 use mathlib.Core.Logic.{⊎-elim}
 use borrow.Author.Tests.{eqb-false, le-leb}
@@ -12,7 +12,7 @@ use lib.Seq.{drop-drop}
 use Rattle.bits.specs.Bits.{has, any}
 use Rattle.bits.proofs.Tests.{both, both-left, both-right, either, below-or-not}
 use Rattle.bits.proofs.Below.{any-at, any-if, count-apart, count-under}
-use Rattle.cubes.specs.Cubes.{cube-names, cubes-share, some-cube, some-holds, patterns-held, inputs-used}
+use Rattle.cubes.specs.Cubes.{cube-names, cubes-share, some-cube, some-holds, open-at, patterns-held, inputs-used}
 use Rattle.cubes.proofs.Lists.{Each, each-some, each-take, each-drop}
 use Rattle.answers.specs.declared.Fault.{Fault}
 use Rattle.answers.specs.Answers.{fault}
@@ -99,6 +99,17 @@ unfolding both-on-off
 accepted-apart s e w =
     eqb-false 7 0 refl
     (sym (ap {B = ℕ} (λ (b : Bool). cond b 7 0) (any-if (both-on-off s) (2 ^ inputs s) (w .0) (w .1) (both (w .2) (w .3)))) ∙ sym (clash-code-is s) ∙ record-sound s e .apart)
+
+-- so each of its patterns is exactly one of on, off and open: open is never off
+pub exactly-one : (s : List ℕ) → record-fault s .code ≡ 0 → (x : ℕ) → x < 2 ^ inputs s
+    → cond (some-holds (on-list s) x) 1 0 + cond (some-holds (off-list s) x) 1 0 + cond (open-at (on-list s) (off-list s) x) 1 0 ≡ 1
+exactly-one s e x h = one (some-holds (on-list s) x) (some-holds (off-list s) x) (λ p q. accepted-apart s e (x, h, p, q))
+  where
+    one : (on off : Bool) → (on ≡ true → off ≡ true → ⊥) → cond on 1 0 + cond off 1 0 + cond (not on && not off) 1 0 ≡ 1
+    one true true f = absurd (f refl refl)
+    one true false f = refl
+    one false true f = refl
+    one false false f = refl
 
 -- ---- the summary's bounds
 

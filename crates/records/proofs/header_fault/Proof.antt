@@ -1,10 +1,9 @@
 -- The five bytes one after the other, and then the length.
-use mathlib.Core.Path.{_≡_, _∙_, sym, ap}
+use mathlib.Core.Path.{_≡_, _∙_, sym}
 use borrow.Author.Needs.{needs}
 use native.Mathlib.Omega.{arith}
-use Rattle.answers.specs.declared.Fault.{Fault}
 use Rattle.answers.specs.Answers.{length-fault}
-use Rattle.answers.proofs.Faults.{then-next, then-stop}
+use Rattle.answers.proofs.Faults.{sound-as, bad-as, then-next, then-stop}
 use Rattle.records.specs.Records.{header-bytes, header-fault}
 use Rattle.records.proofs.Frame.{Header, bytes-sound}
 use Rattle.records.proofs.header_fault.Statement.{statement}
@@ -17,19 +16,19 @@ bytes c = cc
 
 -- and were sound
 header : (c : tie.Else1) → Header (c .before .before .before .before .before .before .before .before .args .s .now)
-header c = bytes-sound _ (ap (λ (f : Fault). f .code) (sym (bytes (c .before .before))) ∙ c .if1 .left)
+header c = bytes-sound _ (sound-as (bytes (c .before .before)) (c .if1 .left))
 
 returns : tie.Need-returns
 unfolding header-fault
 returns c =
     let e = bytes (c .before .before) in
-    e ∙ sym (then-stop _ _ (λ z. c .if1 .taken (ap (λ (f : Fault). f .code) e ∙ z)))
+    e ∙ sym (then-stop _ _ (bad-as e (c .if1 .taken)))
 
 returns-2 : tie.Need-returns-2
 unfolding header-fault
 returns-2 c =
     let e = bytes (c .before .before .before .before .before) in
-    c .length-fault .ensures ∙ sym (then-next _ _ (ap (λ (f : Fault). f .code) (sym e) ∙ c .before .before .before .if1 .left))
+    c .length-fault .ensures ∙ sym (then-next _ _ (sound-as e (c .before .before .before .if1 .left)))
 
 pub header-fault-spec : {M : Type 1} → statement M
 header-fault-spec =

@@ -1,9 +1,10 @@
 -- Refused by the first fault, or accepted with the header's numbers.
-use mathlib.Core.Path.{_≡_, _∙_, sym, ap}
+use mathlib.Core.Path.{_≡_, _∙_, ap}
 use borrow.Author.Needs.{needs}
 use borrow.Author.Tests.{eq-eqb, ne-eqb}
 use native.Mathlib.Omega.{arith}
 use Rattle.answers.specs.Answers.{refused}
+use Rattle.answers.proofs.Faults.{sound-as, bad-as}
 use Rattle.answers.specs.declared.Answer.{Answer}
 use Rattle.answers.specs.declared.Fault.{Fault}
 use Rattle.records.specs.Records.{with-counts, reading, record-fault, inputs, on-count, off-count}
@@ -13,14 +14,13 @@ use Rattle.records.proofs.read.Tie as tie
 
 -- after the test the record is sound
 clear : (c : tie.Else1) → record-fault (c .before .before .before .before .args .s .now) .code ≡ 0
-clear c = ap (λ (f : Fault). f .code) (sym (c .before .before .record-fault .ensures)) ∙ c .if1 .left
+clear c = sound-as (c .before .before .record-fault .ensures) (c .if1 .left)
 
 returns : tie.Need-returns
 unfolding reading
 returns c =
     let e = c .before .before .before .record-fault .ensures in
-    let bad = ne-eqb _ 0 (λ z. c .before .if1 .taken (ap (λ (f : Fault). f .code) e ∙ z)) in
-    simp bad (ap (λ (a : Answer). with-counts a 0 0 0) (c .refused .ensures ∙ ap (λ (f : Fault). refused (f .code) 1 (f .place)) e))
+    simp (ne-eqb _ 0 (bad-as e (c .before .if1 .taken))) (ap (λ (a : Answer). with-counts a 0 0 0) (c .refused .ensures ∙ ap (λ (f : Fault). refused (f .code) 1 (f .place)) e))
 
 returns-2 : tie.Need-returns-2
 unfolding reading

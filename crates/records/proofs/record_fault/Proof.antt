@@ -5,7 +5,7 @@ use mathlib.Core.List.{List}
 use borrow.Author.Needs.{needs}
 use native.Mathlib.Omega.{arith}
 use lib.ListN.{take, drop}
-use Rattle.answers.specs.declared.Fault.{Fault}
+use Rattle.answers.proofs.Faults.{sound-as, bad-as}
 use Rattle.records.specs.Records.{off-at, off-list, header-fault, cubes-fault, clash-fault, clash-code, first-fault}
 use Rattle.records.proofs.Frame.{Framed, header-sound, ends-at-header, ends-at-cubes, ends-at-clash}
 use Rattle.records.proofs.Cubes.{front-long, clash-by-code}
@@ -14,24 +14,24 @@ use Rattle.records.proofs.record_fault.Tie as tie
 
 -- after the first test the header is sound
 header : (c : tie.Else1) → header-fault (c .before .before .before .before .args .s .now) .code ≡ 0
-header c = ap (λ (f : Fault). f .code) (sym (c .before .before .header-fault .ensures)) ∙ c .if1 .left
+header c = sound-as (c .before .before .header-fault .ensures) (c .if1 .left)
 
 framed : (c : tie.Else1) → Framed (c .before .before .before .before .args .s .now)
 framed c = header-sound _ (header c)
 
 -- after the second the cubes are
 cubes : (c : tie.Else2) → cubes-fault (c .before .before .before .before .before .before .before .before .args .s .now) .code ≡ 0
-cubes c = ap (λ (f : Fault). f .code) (sym (c .before .before .cubes-fault .ensures)) ∙ c .if2 .left
+cubes c = sound-as (c .before .before .cubes-fault .ensures) (c .if2 .left)
 
 returns : tie.Need-returns
 returns c =
     let e = c .before .before .header-fault .ensures in
-    e ∙ sym (ends-at-header _ (λ z. c .if1 .taken (ap (λ (f : Fault). f .code) e ∙ z)))
+    e ∙ sym (ends-at-header _ (bad-as e (c .if1 .taken)))
 
 returns-2 : tie.Need-returns-2
 returns-2 c =
     let e = c .before .before .cubes-fault .ensures in
-    e ∙ sym (ends-at-cubes _ (header (c .before .before .before .before)) (λ z. c .if2 .taken (ap (λ (f : Fault). f .code) e ∙ z)))
+    e ∙ sym (ends-at-cubes _ (header (c .before .before .before .before)) (bad-as e (c .if2 .taken)))
 
 returns-3 : tie.Need-returns-3
 returns-3 c =

@@ -1,10 +1,11 @@
 -- Refused by the first fault, or accepted with the three counts.
-use mathlib.Core.Path.{_≡_, _∙_, sym, ap, ap₂}
+use mathlib.Core.Path.{_≡_, _∙_, ap, ap₂}
 use borrow.Author.Needs.{needs}
 use borrow.Author.Tests.{eq-eqb, ne-eqb}
 use native.Mathlib.Omega.{arith}
 use Rattle.cubes.specs.Cubes.{patterns-held, inputs-used}
 use Rattle.answers.specs.Answers.{refused}
+use Rattle.answers.proofs.Faults.{sound-as, bad-as}
 use Rattle.answers.specs.declared.Answer.{Answer}
 use Rattle.answers.specs.declared.Fault.{Fault}
 use Rattle.records.specs.Records.{with-figures, summing, record-fault, inputs}
@@ -14,7 +15,7 @@ use Rattle.records.proofs.summary.Tie as tie
 
 -- after the test the record is sound
 clear : (c : tie.Else1) → record-fault (c .before .before .before .before .args .s .now) .code ≡ 0
-clear c = ap (λ (f : Fault). f .code) (sym (c .before .before .record-fault .ensures)) ∙ c .if1 .left
+clear c = sound-as (c .before .before .record-fault .ensures) (c .if1 .left)
 
 checked : (c : tie.Else1) → Sound (c .before .before .before .before .args .s .now)
 checked c = record-sound _ (clear c)
@@ -23,8 +24,7 @@ returns : tie.Need-returns
 unfolding summing
 returns c =
     let e = c .before .before .before .record-fault .ensures in
-    let bad = ne-eqb _ 0 (λ z. c .before .if1 .taken (ap (λ (f : Fault). f .code) e ∙ z)) in
-    simp bad (ap (λ (a : Answer). with-figures a 0 0 0) (c .refused .ensures ∙ ap (λ (f : Fault). refused (f .code) 1 (f .place)) e))
+    simp (ne-eqb _ 0 (bad-as e (c .before .if1 .taken))) (ap (λ (a : Answer). with-figures a 0 0 0) (c .refused .ensures ∙ ap (λ (f : Fault). refused (f .code) 1 (f .place)) e))
 
 returns-2 : tie.Need-returns-2
 unfolding summing

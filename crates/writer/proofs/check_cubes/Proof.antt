@@ -1,18 +1,13 @@
 -- The on list, the off list, then the one against the other.
-use Prim.Native.Nat.{ℕ}
-use mathlib.Core.Path.{_≡_, _∙_, sym, ap}
+use mathlib.Core.Path.{_≡_, _∙_, sym}
 use borrow.Author.Needs.{needs}
 use native.Mathlib.Omega.{arith}
-use Rattle.answers.specs.declared.Fault.{Fault}
-use Rattle.answers.proofs.Faults.{by-next, by-stop}
+use Rattle.answers.proofs.Faults.{sound-as, by-next, by-stop}
 use Rattle.records.specs.Records.{first-fault, clash-code}
 use Rattle.records.proofs.Cubes.{clean-list, clash-width}
 use Rattle.writer.specs.Writing.{cubes}
 use Rattle.writer.proofs.check_cubes.Statement.{statement}
 use Rattle.writer.proofs.check_cubes.Tie as tie
-
-abbrev code : Fault → ℕ
-code f = f .code
 
 -- both lists are sound, so the code's test against eight inputs is the definition's
 clash : (c : tie.After-clash-fault)
@@ -24,8 +19,8 @@ clash c =
     let start = e₁ .before .before .before in
     c .clash-fault .ensures
     ∙ sym (clash-width _ _ _ 0
-    (clean-list _ _ 0 (λ i. start .before .shared-slice-known .given i .fits) (ap code (sym (e₁ .before .before .cubes-fault .ensures)) ∙ e₁ .if1 .left))
-    (clean-list _ _ 0 (λ i. start .shared-slice-known2 .given i .fits) (ap code (sym (e₂ .before .before .cubes-fault2 .ensures)) ∙ e₂ .if2 .left)))
+    (clean-list _ _ 0 (λ i. start .before .shared-slice-known .given i .fits) (sound-as (e₁ .before .before .cubes-fault .ensures) (e₁ .if1 .left)))
+    (clean-list _ _ 0 (λ i. start .shared-slice-known2 .given i .fits) (sound-as (e₂ .before .before .cubes-fault2 .ensures) (e₂ .if2 .left))))
 
 returns : tie.Need-returns
 unfolding cubes
