@@ -19,34 +19,51 @@ sound-as e z = ap (λ (f : Fault). f .code) (sym e) ∙ z
 pub bad-as : {f g : Fault} → f ≡ g → (f .code ≡ 0 → ⊥) → g .code ≡ 0 → ⊥
 bad-as e bad z = bad (ap (λ (f : Fault). f .code) e ∙ z)
 
+-- ---- a choice by a code: the next thing where it is 0, and else the thing that has the code
+
+module _ {A : Type 0} where
+  pub next-chosen : (k : ℕ) (next this : A) → k ≡ 0 → cond (eqb k 0) next this ≡ next
+  next-chosen k next this e = ap (λ (t : Bool). cond t next this) (eq-eqb _ _ e)
+
+  pub this-chosen : (k : ℕ) (next this : A) → (k ≡ 0 → ⊥) → cond (eqb k 0) next this ≡ this
+  this-chosen k next this e = ap (λ (t : Bool). cond t next this) (ne-eqb _ _ e)
+
+  -- it has code 0 only where the next thing was chosen, and has code 0
+  pub chosen : (code : A → ℕ) (k : ℕ) (next this : A) → code this ≡ k → code (cond (eqb k 0) next this) ≡ 0 → (k ≡ 0) × (code next ≡ 0)
+  chosen code k next this e h = go (eqb k 0) refl h
+    where
+      go : (t : Bool) → eqb k 0 ≡ t → code (cond t next this) ≡ 0 → (k ≡ 0) × (code next ≡ 0)
+      go true q h = (eqb-true _ _ q, h)
+      go false q h = absurd (eqb-false _ _ q (sym e ∙ h))
+
 -- where the first is sound, the next decides; where it is not, it does
 pub then-next : (f g : Fault) → f .code ≡ 0 → f then g ≡ g
 unfolding _then_
-then-next f g e = ap (λ (t : Bool). cond t g f) (eq-eqb _ _ e)
+then-next f g = next-chosen (f .code) g f
 
 pub then-stop : (f g : Fault) → (f .code ≡ 0 → ⊥) → f then g ≡ f
 unfolding _then_
-then-stop f g e = ap (λ (t : Bool). cond t g f) (ne-eqb _ _ e)
+then-stop f g = this-chosen (f .code) g f
 
 -- the same of answers, as a function meets them: f is the fault that it found, and g what the definition says
 pub by-next : (who : ℕ) (f g : Fault) (a next : Answer) → f ≡ g → f .code ≡ 0 → a ≡ next → a ≡ by who g next
 unfolding by
 by-next who f g a next e z h =
-    h ∙ sym (ap (λ (t : Bool). cond t next (refused (g .code) who (g .place))) (eq-eqb _ _ (sound-as e z)))
+    h ∙ sym (next-chosen (g .code) next _ (sound-as e z))
 
 pub by-stop : (who : ℕ) (f g : Fault) (a next : Answer) → f ≡ g → (f .code ≡ 0 → ⊥) → a ≡ refused (f .code) who (f .place) → a ≡ by who g next
 unfolding by
 by-stop who f g a next e z h =
     h ∙ ap (λ (f : Fault). refused (f .code) who (f .place)) e
-    ∙ sym (ap (λ (t : Bool). cond t next (refused (g .code) who (g .place))) (ne-eqb _ _ (bad-as e z)))
+    ∙ sym (this-chosen (g .code) next _ (bad-as e z))
 
 pub or-else-next : (a b : Answer) → a .code ≡ 0 → a or-else b ≡ b
 unfolding _or-else_
-or-else-next a b e = ap (λ (t : Bool). cond t b a) (eq-eqb _ _ e)
+or-else-next a b = next-chosen (a .code) b a
 
 pub or-else-stop : (a b : Answer) → (a .code ≡ 0 → ⊥) → a or-else b ≡ a
 unfolding _or-else_
-or-else-stop a b e = ap (λ (t : Bool). cond t b a) (ne-eqb _ _ e)
+or-else-stop a b = this-chosen (a .code) b a
 
 -- the first of two faults, by cases
 pub then-elim : (R : Fault → Type 0) (f g : Fault) → ((f .code ≡ 0 → ⊥) → R f) → (f .code ≡ 0 → R g) → R (f then g)
@@ -60,27 +77,15 @@ then-elim R f g stop next = go (eqb (f .code) 0) refl
 -- two in a row are sound only if both are
 pub then-both : (f g : Fault) → (f then g) .code ≡ 0 → (f .code ≡ 0) × (g .code ≡ 0)
 unfolding _then_
-then-both f g e = go (eqb (f .code) 0) refl e
-  where
-    go : (t : Bool) → eqb (f .code) 0 ≡ t → cond t g f .code ≡ 0 → (f .code ≡ 0) × (g .code ≡ 0)
-    go true q h = (eqb-true _ _ q, h)
-    go false q h = absurd (eqb-false _ _ q h)
+then-both f g = chosen (λ (f : Fault). f .code) (f .code) g f refl
 
 pub by-both : (who : ℕ) (f : Fault) (next : Answer) → by who f next .code ≡ 0 → (f .code ≡ 0) × (next .code ≡ 0)
 unfolding by
-by-both who f next e = go (eqb (f .code) 0) refl e
-  where
-    go : (t : Bool) → eqb (f .code) 0 ≡ t → cond t next (refused (f .code) who (f .place)) .code ≡ 0 → (f .code ≡ 0) × (next .code ≡ 0)
-    go true q h = (eqb-true _ _ q, h)
-    go false q h = absurd (eqb-false _ _ q h)
+by-both who f next = chosen (λ (a : Answer). a .code) (f .code) next (refused (f .code) who (f .place)) refl
 
 pub or-else-both : (a b : Answer) → (a or-else b) .code ≡ 0 → (a .code ≡ 0) × (b .code ≡ 0)
 unfolding _or-else_
-or-else-both a b e = go (eqb (a .code) 0) refl e
-  where
-    go : (t : Bool) → eqb (a .code) 0 ≡ t → cond t b a .code ≡ 0 → (a .code ≡ 0) × (b .code ≡ 0)
-    go true q h = (eqb-true _ _ q, h)
-    go false q h = absurd (eqb-false _ _ q h)
+or-else-both a b = chosen (λ (a : Answer). a .code) (a .code) b a refl
 
 -- a header byte that is sound is there, and from low to high
 pub record Byte (s : List ℕ) (k low high : ℕ) : Type 0 where

@@ -2,14 +2,13 @@
 use Prim.Native.Nat.{ℕ, suc, _+_, _≤_, _<_}
 use mathlib.Core.Path.{_≡_, refl, sym, ap, _∙_}
 use mathlib.Core.List.{List, [], _∷_, _++_}
-use mathlib.Core.Bool.{Bool, cond}
-use borrow.Author.Tests.{eq-eqb, ne-eqb}
 use native.Mathlib.Nat.{add-zero, zero-add, add-suc, suc-add}
 use native.Mathlib.Numerals.{add-one}
 use native.Mathlib.Omega.{arith}
 use lib.ListN.{length, getD, take, drop, set}
 use lib.Seq.{sets, sets-eq, drop-cons, take-append-seam, drop-append-seam}
 use Rattle.answers.specs.declared.Answer.{Answer}
+use Rattle.answers.proofs.Faults.{next-chosen, this-chosen}
 use Rattle.answers.specs.Answers.{buffer-after, Delivered}
 
 -- one byte of the run is stored, and the others come after it
@@ -42,11 +41,11 @@ sets-stands bytes before h =
 -- a lent buffer after an accepted answer, and after a refusal
 pub after-accepted : (a : Answer) (bytes before : List ℕ) → a .code ≡ 0 → buffer-after a bytes before ≡ sets before 0 bytes
 unfolding buffer-after
-after-accepted a bytes before e = ap (λ (t : Bool). cond t (sets before 0 bytes) before) (eq-eqb _ _ e)
+after-accepted a bytes before = next-chosen (a .code) (sets before 0 bytes) before
 
 pub after-refused : (a : Answer) (bytes before : List ℕ) → (a .code ≡ 0 → ⊥) → buffer-after a bytes before ≡ before
 unfolding buffer-after
-after-refused a bytes before e = ap (λ (t : Bool). cond t (sets before 0 bytes) before) (ne-eqb _ _ e)
+after-refused a bytes before = this-chosen (a .code) (sets before 0 bytes) before
 
 -- as a function meets it: a refusal leaves the buffer, and an accepted answer has stored the bytes
 pub delivered-refusal : (a : Answer) (bytes before : List ℕ) (r : Answer) → r ≡ a → (r .code ≡ 0 → ⊥) → Delivered a bytes before before r

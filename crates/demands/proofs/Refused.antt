@@ -11,7 +11,7 @@ use Rattle.bits.specs.Bits.{bit, every, any, count}
 use Rattle.cubes.specs.Cubes.{cube-holds, cubes-share, some-cube, patterns-held, inputs-used}
 use Rattle.answers.specs.Answers.{refused, _then_, _or-else_, by, byte-fault, length-fault, buffer-after}
 use Rattle.records.specs.Records.{on-list, off-list, off-count, cube-code, clash-code, first-fault, header-bytes, header-fault, record-fault, reading, summing, bytes-at-fault, memory-at-fault}
-use Rattle.writer.specs.Writing.{record-bytes, sizes, cubes, fits, writing}
+use Rattle.writer.specs.Writing.{record-bytes, few, sizes, cubes, fits, writing}
 use Rattle.demands.proofs.Table.{Conj}
 use Rattle.records.proofs.read.Kinds as read-kinds
 use Rattle.records.proofs.read.Reads as read
@@ -38,7 +38,7 @@ five-before-six κs a r s p = ap (λ x. x .answer) p
 pub buffer-written : (κs : Lfts 3) (a : Dens κs write-kinds.ps) (r : resT write-kinds.r κs .Denot) (s : AtExit (endedOf 3 write-kinds.ps write-kinds.r) κs)
     → write.Post κs (2, (at-last (a .1 .0) (3 ∷ 0 ∷ []), (at-last (a .1 .1 .0) (0 ∷ 1 ∷ 0 ∷ 2 ∷ []), (at-last (a .1 .1 .1 .0) (replicate 11 0), tt)))) r s
     → s .1 .1 .1 .0 .now ≡ Conj
-unfolding bit every any count cube-holds cubes-share some-cube by _or-else_ buffer-after cube-code clash-code first-fault record-bytes sizes cubes fits writing
+unfolding bit every any count cube-holds cubes-share some-cube by _or-else_ buffer-after cube-code clash-code first-fault record-bytes few sizes cubes fits writing
 buffer-written κs a r s p = p .buffer
 
 -- a fault call that hands back bytes of f for a fault of g: Conj is sound, and g's first cube is at fault

@@ -68,6 +68,19 @@ clash-width n on off at c d =
     (each-map _ _ (λ P′ N′ q. share-masks P N P′ N′ n (p .2) (q .2) (p .1) (q .1) ∙ sym (share-masks P N P′ N′ 8 (p .0) (q .0) (p .1) (q .1))) off d)))
     on c)
 
+-- ---- the two lists of a record: what holds of each of its cubes holds of each cube of either list
+
+module _ (Q : ℕ → ℕ → Type 0) (s : List ℕ) (each : Each Q (drop (cubes-at s) s)) where
+  pub on-each : Each Q (on-list s)
+  unfolding on-list
+  on-each = each-take Q (on-count s) (drop (cubes-at s) s) each
+
+  pub off-each : Each Q (off-list s)
+  unfolding off-list
+  off-each =
+      each-take Q (off-count s) (drop (off-at s) s)
+      (subst (Each Q) (drop-drop (2 * on-count s) (cubes-at s) s) (each-drop Q (on-count s) (drop (cubes-at s) s) each))
+
 -- ---- the lists of a framed record whose cubes have no fault
 
 -- the list's elements are bytes
@@ -90,21 +103,11 @@ module _ (s : List ℕ) (framed : Framed s) where
     all-clean : CleanList (inputs s) (drop 5 s)
     all-clean = clean-list (inputs s) (drop 5 s) 5 (λ i. subst (λ (b : ℕ). b < 2 ^ 8) (sym (getD-drop 5 s i 0)) (bytes (5 + i))) cubes
 
-    on-clean : CleanList (inputs s) (on-list s)
-    unfolding on-list
-    on-clean = each-take _ (on-count s) (drop 5 s) all-clean
-
-    off-clean : CleanList (inputs s) (off-list s)
-    unfolding off-list
-    off-clean =
-        each-take _ (off-count s) (drop (off-at s) s)
-        (subst (CleanList (inputs s)) (drop-drop (2 * on-count s) 5 s) (each-drop _ (on-count s) (drop 5 s) all-clean))
-
     -- the code tests eight inputs, and a part of the record that ends at the off list
     pub clash-by-code : first-fault (clash-code 8 (off-list s)) (drop (cubes-at s) (take (off-at s) s)) (cubes-at s) ≡ clash-fault s
     clash-by-code =
         ap (λ (on : List ℕ). first-fault (clash-code 8 (off-list s)) on 5) on-front
-        ∙ sym (clash-width (inputs s) (on-list s) (off-list s) 5 on-clean off-clean)
+        ∙ sym (clash-width (inputs s) (on-list s) (off-list s) 5 (on-each _ s all-clean) (off-each _ s all-clean))
 
 -- ---- code 7: some on cube shares a pattern with some off cube exactly when some pattern is both on and off
 

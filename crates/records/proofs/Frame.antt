@@ -3,13 +3,10 @@ use Prim.Native.Nat.{ℕ}
 use mathlib.Core.Path.{_≡_, refl, sym, ap, _∙_}
 use mathlib.Core.List.{List}
 use lib.ListN.{length}
-use mathlib.Core.Bool.{Bool, true, false, cond}
-use borrow.Author.Tests.{eq-eqb, eqb-true}
-use lib.Dec.{eqb}
 use Rattle.answers.specs.declared.Fault.{Fault}
 use Rattle.cubes.specs.Cubes.{patterns-held, inputs-used}
-use Rattle.answers.specs.Answers.{accepted, sound, is-sound, _then_, length-fault}
-use Rattle.answers.proofs.Faults.{Byte, byte-sound, byte-good, length-sound, length-good, then-both, then-next, then-stop}
+use Rattle.answers.specs.Answers.{accepted, sound, _then_, length-fault}
+use Rattle.answers.proofs.Faults.{Byte, byte-sound, byte-good, length-sound, length-good, then-both, then-next, then-stop, next-chosen, chosen}
 use Rattle.records.specs.declared.Reading.{Reading}
 use Rattle.records.specs.declared.Figures.{Figures}
 use Rattle.records.specs.Records.{inputs, on-count, off-count, record-end, on-list, off-list, with-counts, reading, with-figures, summing, header-bytes, header-fault, cubes-fault, clash-fault, record-fault}
@@ -92,26 +89,18 @@ record-good s h = ap (λ (f : Fault). f .code) (ends-at-clash s (ap (λ (f : Fau
 -- the reader's answer to an accepted record
 pub reading-accepted : (s : List ℕ) → record-fault s .code ≡ 0 → reading s ≡ with-counts (accepted 3 (length s)) (inputs s) (on-count s) (off-count s)
 unfolding reading
-reading-accepted s e = simp (eq-eqb _ 0 e)
+reading-accepted s = next-chosen (record-fault s .code) _ _
 
 pub summing-accepted : (s : List ℕ) → record-fault s .code ≡ 0
     → summing s ≡ with-figures (accepted 3 (length s)) (patterns-held (inputs s) (on-list s)) (patterns-held (inputs s) (off-list s)) (inputs-used (on-list s) (off-list s))
 unfolding summing
-summing-accepted s e = simp (eq-eqb _ 0 e)
-
--- an answer that is chosen by a fault has code 0 only where there is none
-chosen : {A : Type 0} (code : A → ℕ) (x y : A) (f : Fault) → code y ≡ f .code → code (cond (is-sound f) x y) ≡ 0 → f .code ≡ 0
-chosen code x y f e h = go (eqb (f .code) 0) refl h
-  where
-    go : (t : Bool) → eqb (f .code) 0 ≡ t → code (cond t x y) ≡ 0 → f .code ≡ 0
-    go true q h = eqb-true _ _ q
-    go false q h = sym e ∙ h
+summing-accepted s = next-chosen (record-fault s .code) _ _
 
 -- reader and summary accept exactly the records without a fault
 pub reading-code : (s : List ℕ) → reading s .answer .code ≡ 0 → record-fault s .code ≡ 0
 unfolding reading
-reading-code s = chosen (λ (r : Reading). r .answer .code) _ _ (record-fault s) refl
+reading-code s e = chosen (λ (r : Reading). r .answer .code) (record-fault s .code) _ _ refl e .0
 
 pub summing-code : (s : List ℕ) → summing s .answer .code ≡ 0 → record-fault s .code ≡ 0
 unfolding summing
-summing-code s = chosen (λ (r : Figures). r .answer .code) _ _ (record-fault s) refl
+summing-code s e = chosen (λ (r : Figures). r .answer .code) (record-fault s .code) _ _ refl e .0

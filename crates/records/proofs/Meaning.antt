@@ -1,25 +1,23 @@
 -- What the answers mean on patterns: code 7 is given exactly when some pattern is both on and off, and the summary's numbers
 -- are counts within their bounds.
-use Prim.Native.Nat.{ℕ, _+_, _*_, _^_, _≤_, _<_}
-use mathlib.Core.Path.{_≡_, refl, sym, ap, _∙_, subst}
+use Prim.Native.Nat.{ℕ, _+_, _^_, _≤_, _<_}
+use mathlib.Core.Path.{_≡_, refl, sym, ap, _∙_}
 use mathlib.Core.Bool.{Bool, true, false, cond, not, _&&_, _||_, false≢true}
 use mathlib.Core.List.{List, [], _∷_}
 use mathlib.Core.Logic.{⊎-elim}
 use borrow.Author.Tests.{eqb-false, le-leb}
 use lib.Dec.{leb, eqb}
-use lib.ListN.{drop}
-use lib.Seq.{drop-drop}
 use Rattle.bits.specs.Bits.{has, any}
 use Rattle.bits.proofs.Tests.{both, both-left, both-right, either, below-or-not}
 use Rattle.bits.proofs.Below.{any-at, any-if, count-apart, count-under}
 use Rattle.cubes.specs.Cubes.{cube-names, cubes-share, some-cube, some-holds, open-at, patterns-held, inputs-used}
-use Rattle.cubes.proofs.Lists.{Each, each-some, each-take, each-drop}
+use Rattle.cubes.proofs.Lists.{Each, each-some}
 use Rattle.answers.specs.declared.Fault.{Fault}
 use Rattle.answers.specs.Answers.{fault}
 use Rattle.answers.proofs.Faults.{then-elim}
-use Rattle.records.specs.Records.{inputs, on-count, off-count, cubes-at, off-at, on-list, off-list, cube-code, clash-code, first-fault, header-fault, cubes-fault, clash-fault, record-fault}
+use Rattle.records.specs.Records.{inputs, cubes-at, on-list, off-list, cube-code, clash-code, first-fault, header-fault, cubes-fault, clash-fault, record-fault}
 use Rattle.records.proofs.Frame.{record-sound, ends-at-clash}
-use Rattle.records.proofs.Cubes.{first-each, clash-means}
+use Rattle.records.proofs.Cubes.{first-each, on-each, off-each, clash-means}
 use Rattle.records.proofs.Places.{header-codes, first-codes, cube-codes}
 
 -- ---- code 7
@@ -48,14 +46,10 @@ abbrev pub Coded : ℕ → List ℕ → Type 0
 Coded n l = Each (λ P N. cube-code n P N ≡ 0) l
 
 pub each-on : (s : List ℕ) → record-fault s .code ≡ 0 → Coded (inputs s) (on-list s)
-unfolding on-list
-each-on s e = each-take _ (on-count s) (drop (cubes-at s) s) (first-each _ _ _ (record-sound s e .cubes))
+each-on s e = on-each _ s (first-each _ _ _ (record-sound s e .cubes))
 
 pub each-off : (s : List ℕ) → record-fault s .code ≡ 0 → Coded (inputs s) (off-list s)
-unfolding off-list
-each-off s e =
-    each-take _ (off-count s) (drop (off-at s) s)
-    (subst (Coded (inputs s)) (drop-drop (2 * on-count s) 5 s) (each-drop _ (on-count s) (drop 5 s) (first-each _ _ _ (record-sound s e .cubes))))
+each-off s e = off-each _ s (first-each _ _ _ (record-sound s e .cubes))
 
 -- the code of the last part of the reading, on patterns
 clash-code-is : (s : List ℕ) → clash-fault s .code ≡ cond (any (2 ^ inputs s) (λ x. some-holds (on-list s) x && some-holds (off-list s) x)) 7 0

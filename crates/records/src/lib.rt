@@ -131,7 +131,7 @@ pub fn record_fault(s: &[u8]) -> Fault
     clash_fault(&s[..end], CUBES, off_list(s))
 }
 
-// The reader.
+// Reads a function record: its n, a and b, or its first fault.
 pub fn read(s: &[u8]) -> Reading
     ensures { λ r. ⌜ r ≡ reading (now (s .entry)) ⌝ }
 {
@@ -152,7 +152,7 @@ pub fn read(s: &[u8]) -> Reading
     }
 }
 
-// The summary.
+// Counts an accepted record's on patterns, off patterns and inputs in use, each pattern once however many cubes hold it.
 pub fn summary(s: &[u8]) -> Figures
     ensures { λ r. ⌜ r ≡ summing (now (s .entry)) ⌝ }
 {

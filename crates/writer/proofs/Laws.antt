@@ -15,7 +15,7 @@ use Rattle.records.proofs.Cubes.{first-each, each-first}
 use Rattle.answers.specs.Answers.{accepted, refused, sound}
 use Rattle.answers.proofs.Faults.{by-both, by-next}
 use Rattle.answers.proofs.Stores.{sets-join}
-use Rattle.writer.specs.Writing.{record-bytes, fine, sizes, cubes, fits}
+use Rattle.writer.specs.Writing.{record-bytes, fine, few, sizes, cubes, fits}
 
 pub record Sized (n : ℕ) (on off : List ℕ) : Type 0 where
   pub least : 1 ≤ n
@@ -26,7 +26,7 @@ pub record Sized (n : ℕ) (on off : List ℕ) : Type 0 where
   pub off-few : length off ≤ 128
 
 pub sizes-sound : (n : ℕ) (on off : List ℕ) → sizes n on off .code ≡ 0 → Sized n on off
-unfolding sizes
+unfolding sizes few
 sizes-sound n on off e =
     let s₁ = passed (ltb n 1) 2 0 0 _ e in
     let s₂ = passed (ltb 8 n) 2 0 0 _ (s₁ .1) in
@@ -77,7 +77,7 @@ stored l header on off e =
     ∙ sets-join l header (on ++ off) 0
 
 pub sizes-good : (n : ℕ) (on off : List ℕ) → Sized n on off → sizes n on off ≡ fine
-unfolding sizes
+unfolding sizes few
 sizes-good n on off h =
     simp
     (le-ltb _ _ (h .least), le-ltb _ _ (h .most), ne-eqb _ _ (odd (h .on-even)), ne-eqb _ _ (odd (h .off-even)), le-ltb _ _ (h .on-few), le-ltb _ _ (h .off-few))

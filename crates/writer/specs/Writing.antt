@@ -17,18 +17,20 @@ record-bytes n on off = 0x46 ∷ 0x4E ∷ n ∷ length on / 2 ∷ length off / 2
 abbrev pub fine : Answer
 fine = accepted 3 0
 
--- n, and the lengths of the lists
+-- no list has more than 64 cubes
+unfoldable pub few : List ℕ → List ℕ → Answer
+few on off = cond (ltb 128 (length on)) (refused 4 1 128) (cond (ltb 128 (length off)) (refused 4 2 128) fine)
+
+-- n, then whether each list is whole cubes, then their number
 unfoldable pub sizes : ℕ → List ℕ → List ℕ → Answer
 sizes n on off =
     cond (ltb n 1) (refused 3 0 0)
     (cond (ltb 8 n) (refused 3 0 0)
     (cond (eqb (length on % 2) 1) (refused 19 1 (length on))
     (cond (eqb (length off % 2) 1) (refused 19 2 (length off))
-    (cond (ltb 128 (length on)) (refused 4 1 128)
-    (cond (ltb 128 (length off)) (refused 4 2 128)
-    fine)))))
+    (few on off))))
 
--- the cubes
+-- each cube of either list, then the on cubes against the off cubes
 unfoldable pub cubes : ℕ → List ℕ → List ℕ → Answer
 cubes n on off =
     by 1 (first-fault (cube-code n) on 0)
@@ -36,7 +38,7 @@ cubes n on off =
     (by 1 (first-fault (clash-code n off) on 0)
     fine))
 
--- the buffer
+-- room for the whole record, which comes last
 unfoldable pub fits : ℕ → ℕ → Answer
 fits room needed = cond (ltb room needed) (refused 18 4 needed) (accepted 3 needed)
 

@@ -67,7 +67,7 @@ fn store(n: u8, on: &[u8], off: &[u8], out: &mut [u8])
     answers::put(out, 5 + on.len(), off);
 }
 
-// The writer.
+// Writes a function record. All is tested before the first byte is stored, so a refusal leaves the buffer alone.
 pub fn write(n: u8, on: &[u8], off: &[u8], out: &mut [u8]) -> Answer
     ensures { λ r. ⌜ Delivered (writing n (now (on .entry)) (now (off .entry)) (length (now (out .entry)))) (record-bytes n (now (on .entry)) (now (off .entry))) (now (out .entry)) (now (out .exit)) r ⌝ }
 {

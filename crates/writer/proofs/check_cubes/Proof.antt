@@ -2,10 +2,12 @@
 use mathlib.Core.Path.{_≡_, _∙_, sym}
 use borrow.Author.Needs.{needs}
 use native.Mathlib.Omega.{arith}
+use Rattle.answers.specs.declared.Answer.{Answer}
+use Rattle.answers.specs.Answers.{by}
 use Rattle.answers.proofs.Faults.{sound-as, by-next, by-stop}
 use Rattle.records.specs.Records.{first-fault, clash-code}
 use Rattle.records.proofs.Cubes.{clean-list, clash-width}
-use Rattle.writer.specs.Writing.{cubes}
+use Rattle.writer.specs.Writing.{fine, cubes}
 use Rattle.writer.proofs.check_cubes.Statement.{statement}
 use Rattle.writer.proofs.check_cubes.Tie as tie
 
@@ -36,25 +38,26 @@ returns-2 c =
     by-next 1 _ _ _ _ (e₁ .before .before .cubes-fault .ensures) (e₁ .if1 .left)
     (by-stop 2 _ _ _ _ (t .before .before .cubes-fault2 .ensures) (t .if2 .taken) (c .refused2 .ensures))
 
-returns-3 : tie.Need-returns-3
+-- both lists are sound, so the last test decides
+by-clash : (c : tie.After-clash-fault) (r : Answer)
+    → let a = c .before .before .before .before .before .before .before .before .before .args in
+    r ≡ by 1 (first-fault (clash-code (a .n) (a .off .now)) (a .on .now) 0) fine → r ≡ cubes (a .n) (a .on .now) (a .off .now)
 unfolding cubes
-returns-3 c =
-    let t = c .before in
-    let e₂ = t .before .before .before in
+by-clash c r e =
+    let e₂ = c .before in
     let e₁ = e₂ .before .before .before in
     by-next 1 _ _ _ _ (e₁ .before .before .cubes-fault .ensures) (e₁ .if1 .left)
-    (by-next 2 _ _ _ _ (e₂ .before .before .cubes-fault2 .ensures) (e₂ .if2 .left)
-    (by-stop 1 _ _ _ _ (clash (t .before .before)) (t .if3 .taken) (c .refused3 .ensures)))
+    (by-next 2 _ _ _ _ (e₂ .before .before .cubes-fault2 .ensures) (e₂ .if2 .left) e)
+
+returns-3 : tie.Need-returns-3
+returns-3 c =
+    let called = c .before .before .before in
+    by-clash called _ (by-stop 1 _ _ _ _ (clash called) (c .before .if3 .taken) (c .refused3 .ensures))
 
 returns-4 : tie.Need-returns-4
-unfolding cubes
 returns-4 c =
-    let t = c .before in
-    let e₂ = t .before .before .before in
-    let e₁ = e₂ .before .before .before in
-    by-next 1 _ _ _ _ (e₁ .before .before .cubes-fault .ensures) (e₁ .if1 .left)
-    (by-next 2 _ _ _ _ (e₂ .before .before .cubes-fault2 .ensures) (e₂ .if2 .left)
-    (by-next 1 _ _ _ _ (clash (t .before .before)) (t .if3 .left) (c .accepted .ensures)))
+    let called = c .before .before .before in
+    by-clash called _ (by-next 1 _ _ _ _ (clash called) (c .before .if3 .left) (c .accepted .ensures))
 
 pub check-cubes-spec : {M : Type 1} → statement M
 check-cubes-spec =

@@ -1,7 +1,8 @@
 -- At each return, the tests that led there say which case of `sizes` holds.
+use mathlib.Core.Path.{_≡_, _∙_, sym}
 use borrow.Author.Needs.{needs}
 use borrow.Author.Tests.{lt-ltb, le-ltb, eq-eqb, ne-eqb}
-use Rattle.writer.specs.Writing.{sizes}
+use Rattle.writer.specs.Writing.{few, sizes}
 use Rattle.writer.proofs.check_sizes.Statement.{statement}
 use Rattle.writer.proofs.check_sizes.Tie as tie
 
@@ -19,32 +20,26 @@ returns-4 c =
     (le-ltb _ _ (t .before .before .before .if1 .left), le-ltb _ _ (t .before .before .if2 .left), ne-eqb _ _ (t .before .if3 .left), eq-eqb _ _ (t .if4 .taken))
     (c .refused4 .ensures)
 
+-- n is right and both lengths are even, so the lengths alone decide
+even : (c : tie.Else4)
+    → let a = c .before .before .before .before .before .before .args in
+    sizes (a .n) (a .on .now) (a .off .now) ≡ few (a .on .now) (a .off .now)
+unfolding sizes few
+even c =
+    let odd = c .before in
+    simp (le-ltb _ _ (odd .before .before .if1 .left), le-ltb _ _ (odd .before .if2 .left), ne-eqb _ _ (odd .if3 .left), ne-eqb _ _ (c .if4 .left))
+
 returns-5 : tie.Need-returns-5
-unfolding sizes
-returns-5 c =
-    let t = c .before in
-    let even = t .before .before in
-    simp
-    (le-ltb _ _ (even .before .before .if1 .left), le-ltb _ _ (even .before .if2 .left), ne-eqb _ _ (even .if3 .left), ne-eqb _ _ (t .before .if4 .left), lt-ltb _ _ (t .if5 .taken))
-    (c .refused5 .ensures)
+unfolding few
+returns-5 c = let t = c .before in c .refused5 .ensures ∙ sym (even (t .before) ∙ simp (lt-ltb _ _ (t .if5 .taken)))
 
 returns-6 : tie.Need-returns-6
-unfolding sizes
-returns-6 c =
-    let t = c .before in
-    let even = t .before .before .before in
-    simp
-    (le-ltb _ _ (even .before .before .if1 .left), le-ltb _ _ (even .before .if2 .left), ne-eqb _ _ (even .if3 .left), ne-eqb _ _ (t .before .before .if4 .left), le-ltb _ _ (t .before .if5 .left), lt-ltb _ _ (t .if6 .taken))
-    (c .refused6 .ensures)
+unfolding few
+returns-6 c = let t = c .before in c .refused6 .ensures ∙ sym (even (t .before .before) ∙ simp (le-ltb _ _ (t .before .if5 .left), lt-ltb _ _ (t .if6 .taken)))
 
 returns-7 : tie.Need-returns-7
-unfolding sizes
-returns-7 c =
-    let t = c .before in
-    let even = t .before .before .before in
-    simp
-    (le-ltb _ _ (even .before .before .if1 .left), le-ltb _ _ (even .before .if2 .left), ne-eqb _ _ (even .if3 .left), ne-eqb _ _ (t .before .before .if4 .left), le-ltb _ _ (t .before .if5 .left), le-ltb _ _ (t .if6 .left))
-    (c .accepted .ensures)
+unfolding few
+returns-7 c = let t = c .before in c .accepted .ensures ∙ sym (even (t .before .before) ∙ simp (le-ltb _ _ (t .before .if5 .left), le-ltb _ _ (t .if6 .left)))
 
 pub check-sizes-spec : {M : Type 1} → statement M
 unfolding sizes
