@@ -1,10 +1,12 @@
 -- Tests of every number below a bound: `every`, `any` and `count` say what they seem to.
 use Prim.Native.Nat.{ℕ, zero, suc, _+_, _≤_, _<_}
 use mathlib.Core.Path.{_≡_, refl, sym, ap, ap₂, _∙_}
-use mathlib.Core.Bool.{Bool, true, false, cond, _||_, false≢true}
+use mathlib.Core.Bool.{Bool, true, false, cond, _&&_, _||_, false≢true}
 use mathlib.Core.Logic.{_⊎_, ⊎-elim}
-use native.Mathlib.Nat.{le-refl, le-step, add-assoc, le-of-suc-le-suc, not-suc-le-zero, eq-or-lt-of-le}
+use native.Mathlib.Nat.{le-refl, le-step, le-trans, add-assoc, le-of-suc-le-suc, not-suc-le-zero, eq-or-lt-of-le}
 use native.Mathlib.Omega.{arith}
+use borrow.Author.Tests.{ltb-true, lt-ltb}
+use lib.Dec.{ltb}
 use Rattle.bits.specs.Bits.{every, any, count}
 use Rattle.bits.proofs.Tests.{both-left, both-right, both, either, or-left, or-right, same-test, not-passed}
 
@@ -58,6 +60,13 @@ module _ (p : ℕ → Bool) where
   unfolding count
   count-low zero = omega arith
   count-low (suc n) = ap (λ (c : ℕ). c + cond (p (suc n)) 1 0) (count-low n) ∙ add-assoc (cond (p 0) 1 0) (count n (λ k. p (suc k))) (cond (p (suc n)) 1 0)
+
+-- a test that asks for a number below n too, under a higher bound
+pub any-under : (p : ℕ → Bool) (n m : ℕ) → n ≤ m → any m (λ k. ltb k n && p k) ≡ any n p
+any-under p n m h =
+    same-test (any m (λ k. ltb k n && p k)) (any n p)
+    (λ e. let w = any-at (λ k. ltb k n && p k) m e in any-if p n (w .0) (ltb-true (w .0) n (both-left (ltb (w .0) n) (p (w .0)) (w .2))) (both-right (ltb (w .0) n) (p (w .0)) (w .2)))
+    (λ e. let w = any-at p n e in any-if (λ k. ltb k n && p k) m (w .0) (le-trans (w .1) h) (both (lt-ltb (w .0) n (w .1)) (w .2)))
 
 pub any-never : (n : ℕ) → any n (λ k. false) ≡ false
 any-never n = any-none (λ k. false) n (λ k h e. false≢true e)

@@ -1,3 +1,4 @@
 pub mod Tests
 pub mod Below
 pub mod Bit
+pub mod Mask

@@ -16,6 +16,10 @@ unfoldable pub number : ℕ → (ℕ → ℕ) → ℕ
 number zero f = 0
 number (suc k) f = f k * 2 ^ k + number k f
 
+-- the mask of the numbers below k that pass the test: bit i is 1 exactly where i does
+abbrev pub mask : ℕ → (ℕ → Bool) → ℕ
+mask k t = number k (λ i. cond (t i) 1 0)
+
 -- whether the test passes at every number below n
 unfoldable pub every : ℕ → (ℕ → Bool) → Bool
 every zero p = true

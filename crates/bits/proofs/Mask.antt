@@ -1,0 +1,94 @@
+-- Masks: the number whose bit i says whether i passes a test. A number below 2^k is the mask of its own bits, so what an
+-- operator of the code does to a mask is shown bit by bit (`mask-is`).
+use Prim.Native.Nat.{ℕ, zero, suc, _+_, _-_, _^_, _≤_, _<_}
+use mathlib.Core.Path.{_≡_, refl, sym, ap, ap₂, _∙_}
+use mathlib.Core.Bool.{Bool, true, false, cond, not, _&&_, _||_}
+use mathlib.Core.Logic.{⊎-elim}
+use native.Mathlib.Nat.{lt-of-le-of-lt, sub-zero}
+use native.Mathlib.Omega.{arith}
+use borrow.Author.Tests.{lt-ltb, le-ltb, eq-eqb, ne-eqb}
+use lib.Bits.{bitAnd, bitOr, and-le-l, or-lt}
+use lib.Dec.{eqb, ltb}
+use lib.Pow.{pow-pos, pow-mono, pow-lt}
+use Rattle.bits.specs.Bits.{bit, has, number, mask}
+use Rattle.bits.proofs.Tests.{and-true, and-false, below-or-not}
+use Rattle.bits.proofs.Bit.{bit-le, bit-zero, has-zero, has-or, has-and, bit-above, bit-pow, bit-not, bits-eq, counted, number-lt, number-bit}
+
+flag-le : (b : Bool) → cond b 1 0 ≤ 1
+flag-le true = omega arith
+flag-le false = omega arith
+
+flag-is : (b : Bool) → eqb (cond b 1 0) 1 ≡ b
+flag-is true = refl
+flag-is false = refl
+
+module _ (k : ℕ) (t : ℕ → Bool) where
+  pub mask-lt : mask k t < 2 ^ k
+  mask-lt = number-lt (λ i. cond (t i) 1 0) (λ i. flag-le (t i)) k
+
+  mask-bit : (i : ℕ) → i < k → bit i (mask k t) ≡ cond (t i) 1 0
+  mask-bit i h = number-bit (λ i. cond (t i) 1 0) (λ i. flag-le (t i)) k i h
+
+  pub mask-has : (i : ℕ) → i < k → has (mask k t) i ≡ t i
+  mask-has i h = ap (λ (b : ℕ). eqb b 1) (mask-bit i h) ∙ flag-is (t i)
+
+  -- bits above the width are 0
+  pub mask-above : (i : ℕ) → k ≤ i → has (mask k t) i ≡ false
+  mask-above i h = ap (λ (b : ℕ). eqb b 1) (bit-above i k mask-lt h)
+
+  -- the only number below 2^k with these bits
+  pub mask-is : (x : ℕ) → x < 2 ^ k → ((i : ℕ) → i < k → has x i ≡ t i) → x ≡ mask k t
+  mask-is x h f = bits-eq k x (mask k t) h mask-lt (λ i l. sym (counted x i) ∙ ap {B = ℕ} (λ (b : Bool). cond b 1 0) (f i l) ∙ sym (mask-bit i l))
+
+pub mask-same : (k : ℕ) (t u : ℕ → Bool) → ((i : ℕ) → i < k → t i ≡ u i) → mask k t ≡ mask k u
+mask-same k t u f = mask-is k u (mask k t) (mask-lt k t) (λ i l. mask-has k t i l ∙ f i l)
+
+-- no number passes
+pub mask-none : (k : ℕ) (t : ℕ → Bool) → ((i : ℕ) → i < k → t i ≡ false) → mask k t ≡ 0
+mask-none k t f = sym (mask-is k t 0 (pow-pos k) (λ i l. has-zero i ∙ sym (f i l)))
+
+-- one bit alone
+pub has-pow : (j i : ℕ) → has (2 ^ j) i ≡ eqb i j
+has-pow j i = ap (λ (b : ℕ). eqb b 1) (bit-pow i j) ∙ flag-is (eqb i j)
+
+has-flag : (u : Bool) (j i : ℕ) → has (cond u (2 ^ j) 0) i ≡ eqb i j && u
+has-flag true j i = has-pow j i ∙ sym (and-true (eqb i j))
+has-flag false j i = has-zero i ∙ sym (and-false (eqb i j))
+
+flag-lt : (u : Bool) (k j : ℕ) → j < k → cond u (2 ^ j) 0 < 2 ^ k
+flag-lt true k j h = pow-lt h
+flag-lt false k j h = pow-pos k
+
+-- all bits turned round
+pub has-not : (k x i : ℕ) → x < 2 ^ k → i < k → has (2 ^ k - 1 - x) i ≡ not (has x i)
+has-not k x i h l = go (bit i (2 ^ k - 1 - x)) (bit i x) (bit-not k i x h l)
+  where
+    go : (a b : ℕ) → a + b ≡ 1 → eqb a 1 ≡ not (eqb b 1)
+    go zero b e = sym (ap not (eq-eqb b 1 (omega arith)))
+    go (suc zero) b e = sym (ap not (ne-eqb b 1 (λ q. omega arith)))
+    go (suc (suc a)) b e = absurd (omega (arith, e))
+
+module _ (k : ℕ) (t : ℕ → Bool) (j : ℕ) (h : j < k) where
+  -- bit j is added if u says so
+  pub mask-add : (u : Bool) → bitOr (mask k t) (cond u (2 ^ j) 0) ≡ mask k (λ i. t i || eqb i j && u)
+  mask-add u =
+      mask-is k (λ i. t i || eqb i j && u) (bitOr (mask k t) (cond u (2 ^ j) 0)) (or-lt k (mask k t) (cond u (2 ^ j) 0) (mask-lt k t) (flag-lt u k j h))
+      (λ i l. has-or (mask k t) (cond u (2 ^ j) 0) i ∙ ap₂ _||_ (mask-has k t i l) (has-flag u j i))
+
+  -- bit j is taken away
+  pub mask-drop : bitAnd (mask k t) (2 ^ k - 1 - 2 ^ j) ≡ mask k (λ i. t i && not (eqb i j))
+  mask-drop =
+      mask-is k (λ i. t i && not (eqb i j)) (bitAnd (mask k t) (2 ^ k - 1 - 2 ^ j)) (lt-of-le-of-lt (and-le-l (mask k t) (2 ^ k - 1 - 2 ^ j)) (mask-lt k t))
+      (λ i l. has-and (mask k t) (2 ^ k - 1 - 2 ^ j) i ∙ ap₂ _&&_ (mask-has k t i l) (has-not k (2 ^ j) i (pow-lt h) l ∙ ap not (has-pow j i)))
+
+-- every number below n
+pub mask-low : (k n : ℕ) → n ≤ k → 2 ^ n - 1 ≡ mask k (λ i. ltb i n)
+mask-low k n h =
+    let short : 2 ^ n - 1 < 2 ^ k = omega (arith, pow-mono h, pow-pos n) in
+    mask-is k (λ i. ltb i n) (2 ^ n - 1) short (λ i l. ⊎-elim (inside i) (outside i) (below-or-not i n))
+  where
+    inside : (i : ℕ) → i < n → has (2 ^ n - 1) i ≡ ltb i n
+    inside i l = ap (λ (x : ℕ). has x i) (sym (sub-zero (2 ^ n - 1))) ∙ has-not n 0 i (pow-pos n) l ∙ ap not (has-zero i) ∙ sym (lt-ltb i n l)
+
+    outside : (i : ℕ) → n ≤ i → has (2 ^ n - 1) i ≡ ltb i n
+    outside i l = ap (λ (b : ℕ). eqb b 1) (bit-above i n (omega (arith, pow-pos n)) l) ∙ sym (le-ltb i n l)

@@ -1,0 +1,4 @@
+pub mod Packed
+pub mod Standing
+pub mod Carrying
+pub mod Rows

@@ -1,0 +1,47 @@
+-- Choice bytes in one number, eight bits each: what a shift by 8·i finds, and what one byte more adds.
+use Prim.Native.Nat.{ℕ, zero, suc, _+_, _*_, _/_, _%_, _^_, _≤_, _<_}
+use mathlib.Core.Path.{_≡_, refl, sym, ap, ap₂, _∙_, subst}
+use mathlib.Core.List.{List, [], _∷_, _++_}
+use native.Mathlib.Nat.{mul-assoc, mul-comm, div-one}
+use native.Mathlib.Omega.{arith}
+use lib.ListN.{length, getD}
+use lib.Pow.{pow-add, shr-shr}
+use Rattle.rules.specs.Rules.{_adding_}
+use Rattle.partial.specs.Partial.{packed, unpacked}
+
+-- each is a byte
+abbrev pub Bytes : List ℕ → Type 0
+Bytes w = (i : ℕ) → getD w i 0 < 256
+
+-- eight bits more
+byte-up : (k : ℕ) → 2 ^ (8 * suc k) ≡ 256 * 2 ^ (8 * k)
+byte-up k = ap (λ (m : ℕ). 2 ^ m) (omega arith) ∙ pow-add 2 8 (8 * k)
+
+pub packed-lt : (w : List ℕ) → Bytes w → packed w < 2 ^ (8 * length w)
+unfolding packed
+packed-lt [] h = omega arith
+packed-lt (b ∷ w) h = omega (arith, byte-up (length w), h 0, packed-lt w (λ i. h (suc i)))
+
+pub packed-add : (w : List ℕ) (b : ℕ) → packed (w adding b) ≡ packed w + b * 2 ^ (8 * length w)
+unfolding packed
+packed-add [] b = omega arith
+packed-add (a ∷ w) b =
+    let up : b * 2 ^ (8 * suc (length w)) ≡ 256 * (b * 2 ^ (8 * length w)) =
+    ap (λ (m : ℕ). b * m) (byte-up (length w)) ∙ sym (mul-assoc b 256 (2 ^ (8 * length w))) ∙ ap (λ (m : ℕ). m * 2 ^ (8 * length w)) (mul-comm b 256) ∙ mul-assoc 256 b (2 ^ (8 * length w)) in
+    omega (arith, packed-add w b, up)
+
+pub packed-at : (w : List ℕ) → Bytes w → (i : ℕ) → i < length w → packed w / 2 ^ (8 * i) % 256 ≡ getD w i 0
+unfolding packed
+packed-at [] h i l = absurd (omega (arith, l))
+packed-at (b ∷ w) h zero l = omega (arith, h 0, div-one (b + 256 * packed w))
+packed-at (b ∷ w) h (suc i) l =
+    let down : (b + 256 * packed w) / 2 ^ 8 ≡ packed w = omega (arith, h 0) in
+    ap (λ (m : ℕ). (b + 256 * packed w) / 2 ^ m % 256) (omega arith)
+    ∙ ap (λ (m : ℕ). m % 256) (sym (shr-shr (b + 256 * packed w) 8 (8 * i)) ∙ ap (λ (m : ℕ). m / 2 ^ (8 * i)) down)
+    ∙ packed-at w (λ j. h (suc j)) i (omega arith)
+
+pub unpacked-packed : (w : List ℕ) → Bytes w → unpacked (length w) (packed w) ≡ w
+unfolding packed unpacked
+unpacked-packed [] h = refl
+unpacked-packed (b ∷ w) h =
+    ap₂ (λ (a : ℕ) (v : List ℕ). a ∷ v) (omega (arith, h 0)) (ap (unpacked (length w)) (omega (arith, h 0)) ∙ unpacked-packed w (λ i. h (suc i)))

@@ -1,0 +1,276 @@
+-- What a partial wiring by value stands for. The idea: its fields are fixed by n and the choices, and the choices can be read
+-- back from it, so that a caller knows a wiring by n and its choices alone.
+use Prim.Native.Nat.{ℕ, zero, suc, _+_, _-_, _*_, _/_, _%_, _≤_, _<_, _^_}
+use mathlib.Core.Path.{_≡_, refl, sym, ap, ap₂, _∙_, subst, subst₂}
+use mathlib.Core.Bool.{Bool, true, false, cond, not, _&&_, _||_}
+use mathlib.Core.List.{List, [], _∷_, _++_}
+use mathlib.Core.Logic.{⊎-elim}
+use native.Mathlib.Nat.{le-trans, lt-of-lt-of-le, one-mul, mod-eq-of-lt, mul-le-mul-right, le-refl}
+use native.Mathlib.Omega.{arith}
+use borrow.Author.Tests.{not-true, leb-true, le-leb, lt-leb, le-ltb, eqb-false, ne-eqb}
+use lib.Bits.{bitAnd, bitXor, and-mask, and-high, xor-zero-r, xor-add-and}
+use lib.Dec.{eqb, ltb, leb, lit<}
+use lib.ListN.{length, getD, length-append, List·getD-eq-default}
+use lib.Pow.{pow-lt, pow-mono, pow-pos, shl-exact}
+use Rattle.bits.specs.Bits.{bit, has, mask}
+use Rattle.bits.proofs.Tests.{both, both-left, both-right, and-true, same-test, eqb-comm, below-or-not}
+use Rattle.bits.proofs.Bit.{bit-le}
+use Rattle.bits.proofs.Mask.{mask-has, mask-above, mask-same, mask-drop, mask-low}
+use Rattle.rules.specs.Lists.{some-in, each-in}
+use Rattle.rules.specs.Rules.{_adding_, follows}
+use Rattle.wirings.specs.Wirings.{input-of, inverted, straight, is-choice, apart, uses, free-choice}
+use Rattle.wirings.proofs.Choices.{choice-input, choice-byte, plain-choice, follows-is, place-next, free-count, uses-append}
+use Rattle.partial.specs.declared.Wiring.{Wiring}
+use Rattle.partial.specs.Partial.{packed, unplaced, unused, partial, prefix, Stands, Formed, located}
+use Rattle.partial.proofs.Packed.{Bytes, packed-lt, packed-add, packed-at, unpacked-packed}
+
+each-getD : (t : ℕ → Bool) (w : List ℕ) → each-in t w ≡ true → (i : ℕ) → i < length w → t (getD w i 0) ≡ true
+unfolding each-in
+each-getD t [] e i h = absurd (omega (arith, h))
+each-getD t (b ∷ w) e zero h = both-left (t b) (each-in t w) e
+each-getD t (b ∷ w) e (suc i) h = each-getD t w (both-right (t b) (each-in t w) e) i (omega arith)
+
+module _ (n : ℕ) (few : n ≤ 8) (w : List ℕ) (allowed : follows (straight n) [] w ≡ true) where
+  -- each placed choice is a choice byte of n inputs
+  pub placed-choice : (i : ℕ) → i < length w → is-choice n (getD w i 0) ≡ true
+  placed-choice = each-getD (is-choice n) w (both-left (each-in (is-choice n) w) (apart w) (sym (follows-is n w) ∙ allowed))
+
+  pub placed-input : (i : ℕ) → i < length w → input-of (getD w i 0) < 8
+  placed-input i h = lt-of-lt-of-le (choice-input n (omega arith) (getD w i 0) (placed-choice i h)) few
+
+  pub placed-bytes : Bytes w
+  placed-bytes i =
+      ⊎-elim (λ (h : i < length w). le-trans (choice-byte n (omega arith) (getD w i 0) (placed-choice i h)) (omega arith))
+      (λ (h : length w ≤ i). omega (arith, List·getD-eq-default w 0 h))
+      (below-or-not i (length w))
+
+  pub placed-within : length w ≤ n
+  placed-within = omega (arith, free-count n (omega arith) w allowed)
+
+module _ (r : Wiring) (n : ℕ) (w : List ℕ) (s : Stands r n w) where
+  pub stands-n : r .n ≡ n
+  unfolding partial
+  stands-n = ap (λ (r : Wiring). r .n) (s .is)
+
+  pub stands-depth : r .depth ≡ length w
+  unfolding partial
+  stands-depth = ap (λ (r : Wiring). r .depth) (s .is)
+
+  pub stands-unplaced : r .unplaced ≡ mask 8 (unplaced n w)
+  unfolding partial
+  stands-unplaced = ap (λ (r : Wiring). r .unplaced) (s .is)
+
+  pub stands-free : r .free ≡ mask 8 (unused n w)
+  unfolding partial
+  stands-free = ap (λ (r : Wiring). r .free) (s .is)
+
+  pub stands-choices : r .choices ≡ packed w
+  unfolding partial
+  stands-choices = ap (λ (r : Wiring). r .choices) (s .is)
+
+  -- the choices are read back
+  pub stands-prefix : prefix r ≡ w
+  unfolding partial
+  stands-prefix = ap prefix (s .is) ∙ unpacked-packed w (placed-bytes n (s .few) w (s .allowed))
+
+  pub stands-formed : Formed r
+  stands-formed = subst₂ (Stands r) (sym stands-n) (sym stands-prefix) s
+
+-- ---- whether an input is free
+
+-- a bit that is not 0 is 1
+not-zero : (b : ℕ) → b ≤ 1 → not (eqb b 0) ≡ eqb b 1
+not-zero zero h = refl
+not-zero (suc zero) h = refl
+not-zero (suc (suc b)) h = absurd (omega (arith, h))
+
+pub free-masks : (r : Wiring) (b : ℕ) → Formed r → not (eqb (bitAnd (r .free / 2 ^ bitAnd b 15) 1) 0) ≡ ltb (input-of b) (r .n) && free-choice (prefix r) b
+unfolding bit
+free-masks r b s =
+    let j = input-of b in
+    let t = unused (r .n) (prefix r) in
+    ap (λ (k : ℕ). not (eqb k 0)) (and-mask (r .free / 2 ^ bitAnd b 15) 1 ∙ ap₂ (λ (m k : ℕ). m / 2 ^ k % 2) (stands-free r (r .n) (prefix r) s) (and-mask b 4))
+    ∙ not-zero (bit j (mask 8 t)) (bit-le j (mask 8 t))
+    ∙ ⊎-elim (mask-has 8 t j)
+    (λ (h : 8 ≤ j). mask-above 8 t j h ∙ sym (ap (λ (u : Bool). u && free-choice (prefix r) b) (le-ltb j (r .n) (le-trans (s .few) h))))
+    (below-or-not j 8)
+
+-- ---- the empty one
+
+pub shifted : (j : ℕ) → j < 8 → (1 * 2 ^ j) % 256 ≡ 2 ^ j
+shifted j h = ap (λ (m : ℕ). m % 256) (one-mul (2 ^ j)) ∙ mod-eq-of-lt (pow-lt h)
+
+pub all-inputs : (n : ℕ) → n ≤ 8 → (1 * 2 ^ n) % 2 ^ 32 ≡ 2 ^ n
+all-inputs n h = shl-exact 1 n 32 (lit< tt) (omega arith) ∙ one-mul (2 ^ n)
+
+pub started : (n : ℕ) → n ≤ 8 → let all = (1 * 2 ^ n) % 2 ^ 32 - 1 in Stands (record { n = n; depth = 0; unplaced = all; free = all; choices = 0 }) n []
+unfolding partial packed some-in follows
+started n h =
+    let low : (1 * 2 ^ n) % 2 ^ 32 - 1 ≡ mask 8 (λ i. ltb i n) = ap (λ (m : ℕ). m - 1) (all-inputs n h) ∙ mask-low 8 n h in
+    let unplaced-is = low ∙ mask-same 8 (λ i. ltb i n) (unplaced n []) (λ i l. sym (ap (λ (t : Bool). ltb i n && t) (le-leb 0 i (omega arith)) ∙ and-true (ltb i n))) in
+    let unused-is = low ∙ mask-same 8 (λ i. ltb i n) (unused n []) (λ i l. sym (and-true (ltb i n))) in
+    record { is = λ i. record { n = n; depth = 0; unplaced = unplaced-is i; free = unused-is i; choices = 0 }; few = h; allowed = refl }
+
+-- ---- where a literal goes
+
+-- bit 4 alone
+sixteen : (b : ℕ) → bitAnd b 16 ≡ b / 16 % 2 * 16
+sixteen b = and-high b 1 4
+
+plain-four : (b : ℕ) → b < 16 → bitAnd b 16 ≡ 0
+plain-four b h = omega (arith, sixteen b)
+
+inverted-four : (b : ℕ) → 16 ≤ b → b < 32 → bitAnd b 16 ≡ 16
+inverted-four b h l = omega (arith, sixteen b)
+
+module _ (r : Wiring) (l : ℕ) (s : Formed r) (literal : is-choice (r .depth) l ≡ true) where
+  depth-few : r .depth ≤ 8
+  depth-few = omega (arith, stands-depth r (r .n) (prefix r) s, placed-within (r .n) (s .few) (prefix r) (s .allowed), s .few)
+
+  literal-placed : input-of l < length (prefix r)
+  literal-placed = subst (λ (d : ℕ). input-of l < d) (stands-depth r (r .n) (prefix r) s) (choice-input (r .depth) (omega (arith, depth-few)) l literal)
+
+  -- the shift is by less than 64
+  pub literal-room : bitAnd l 15 < 8
+  literal-room = omega (arith, and-mask l 4, choice-input (r .depth) (omega (arith, depth-few)) l literal, depth-few)
+
+  pub located-masks : bitXor (r .choices / 2 ^ (8 * bitAnd l 15) % 256) (bitAnd l 16) ≡ located (prefix r) l
+  unfolding located
+  located-masks =
+      let w = prefix r in
+      let b = getD w (input-of l) 0 in
+      let found : r .choices / 2 ^ (8 * bitAnd l 15) % 256 ≡ b =
+      ap₂ (λ (c i : ℕ). c / 2 ^ (8 * i) % 256) (stands-choices r (r .n) w s) (and-mask l 4) ∙ packed-at w (placed-bytes (r .n) (s .few) w (s .allowed)) (input-of l) literal-placed in
+      let low : b < 32 = choice-byte (r .n) (omega (arith, s .few)) b (placed-choice (r .n) (s .few) w (s .allowed) (input-of l) literal-placed) in
+      let short : l < 32 = choice-byte (r .depth) (omega (arith, depth-few)) l literal in
+      ap (λ (m : ℕ). bitXor m (bitAnd l 16)) found ∙ turned l b short low
+    where
+      -- a negated literal turns the choice round
+      turned : (l b : ℕ) → l < 32 → b < 32 → bitXor b (bitAnd l 16) ≡ cond (inverted l) (cond (inverted b) (b - 16) (b + 16)) b
+      turned l b short low =
+          ⊎-elim (λ (h : l < 16). simp (lt-leb 16 l h) (ap (bitXor b) (plain-four l h) ∙ xor-zero-r b))
+          (λ (h : 16 ≤ l).
+          simp (le-leb 16 l h)
+          (ap (bitXor b) (inverted-four l h short)
+          ∙ ⊎-elim (λ (k : b < 16). simp (lt-leb 16 b k) (omega (arith, xor-add-and b 16, plain-four b k)))
+          (λ (k : 16 ≤ b). simp (le-leb 16 b k) (omega (arith, xor-add-and b 16, inverted-four b k low)))
+          (below-or-not b 16)))
+          (below-or-not l 16)
+
+-- the plain literal of an input goes where its choice says
+pub located-plain : (w : List ℕ) (i : ℕ) → i < 8 → located w i ≡ getD w i 0
+unfolding located
+located-plain w i h = simp (lt-leb 16 i (omega arith)) (ap (λ (k : ℕ). getD w k 0) (omega arith))
+
+-- input i is placed
+module _ (r : Wiring) (s : Formed r) (i : ℕ) (h : i < r .depth) where
+  pub input-placed : i < length (prefix r)
+  input-placed = subst (λ (d : ℕ). i < d) (stands-depth r (r .n) (prefix r) s) h
+
+  pub input-few : i < 8
+  input-few = omega (arith, input-placed, placed-within (r .n) (s .few) (prefix r) (s .allowed), s .few)
+
+  pub input-literal : is-choice (r .depth) i ≡ true
+  input-literal = plain-choice (r .depth) (omega (arith, stands-depth r (r .n) (prefix r) s, placed-within (r .n) (s .few) (prefix r) (s .allowed), s .few)) i h .0
+
+  pub input-lands : input-of (getD (prefix r) i 0) < 8
+  input-lands = placed-input (r .n) (s .few) (prefix r) (s .allowed) i input-placed
+
+  -- what is located there names an input below 8
+  pub located-room : (to : ℕ) → to ≡ located (prefix r) i → bitAnd to 15 < 8
+  located-room to e =
+      let j : bitAnd to 15 ≡ input-of (getD (prefix r) i 0) = and-mask to 4 ∙ ap input-of (e ∙ located-plain (prefix r) i input-few) in
+      omega (arith, input-lands)
+
+-- ---- one choice more
+
+-- the inputs past the next one
+past : (t : Bool) (d e i : ℕ) → e ≡ d + 1 → t && leb d i && not (eqb i d) ≡ t && leb e i
+past false d e i q = refl
+past true d e i q =
+    same-test (leb d i && not (eqb i d)) (leb e i)
+    (λ p.
+    let no = eqb-false i d (not-true (eqb i d) (both-right (leb d i) (not (eqb i d)) p)) in
+    le-leb e i (omega (arith, leb-true d i (both-left (leb d i) (not (eqb i d)) p))))
+    (λ p. both (le-leb d i (omega (arith, leb-true e i p))) (ap not (ne-eqb i d (λ h. omega (arith, leb-true e i p)))))
+
+-- the unused inputs but that of one choice more
+but : (t : Bool) (w : List ℕ) (b j : ℕ) → t && not (uses w j) && not (eqb j (input-of b)) ≡ t && not (uses (w adding b) j)
+unfolding some-in
+but t w b j =
+    turn t (uses w j) (eqb j (input-of b))
+    ∙ ap (λ (u : Bool). t && not u) (ap (λ (e : Bool). uses w j || (e || false)) (eqb-comm j (input-of b)) ∙ sym (uses-append w (b ∷ []) j))
+  where
+    turn : (t x y : Bool) → t && not x && not y ≡ t && not (x || (y || false))
+    turn false x y = refl
+    turn true true y = refl
+    turn true false true = refl
+    turn true false false = refl
+
+module _ (r : Wiring) (b : ℕ) (s : Formed r) (choice : is-choice (r .n) b ≡ true) (free : free-choice (prefix r) b ≡ true) where
+  abbrev w : List ℕ
+  w = prefix r
+
+  abbrev more : List ℕ
+  more = w adding b
+
+  allowed-more : follows (straight (r .n)) [] more ≡ true
+  allowed-more = place-next (r .n) w b (s .allowed) choice (not-true (uses w (input-of b)) free)
+
+  pub room : length w < r .n
+  room = omega (arith, placed-within (r .n) (s .few) more allowed-more, length-append w (b ∷ []))
+
+  pub depth-room : r .depth < 8
+  depth-room = omega (arith, room, stands-depth r (r .n) w s, s .few)
+
+  pub input-room : bitAnd b 15 < 8
+  input-room = omega (arith, and-mask b 4, choice-input (r .n) (omega (arith, s .few)) b choice, s .few)
+
+  -- the choice at its place in the packed number
+  grown : r .choices + b * 2 ^ (8 * r .depth) ≡ packed more
+  grown = ap₂ (λ (c d : ℕ). c + b * 2 ^ (8 * d)) (stands-choices r (r .n) w s) (stands-depth r (r .n) w s) ∙ sym (packed-add w b)
+
+  grown-fits : packed more < 2 ^ 64
+  grown-fits =
+      let few : length more ≤ 8 = le-trans (placed-within (r .n) (s .few) more allowed-more) (s .few) in
+      let bits : 8 * length more ≤ 64 = omega arith in
+      lt-of-lt-of-le (packed-lt more (placed-bytes (r .n) (s .few) more allowed-more)) (pow-mono bits)
+
+  shift-exact : (b * 2 ^ (8 * r .depth)) % 2 ^ 64 ≡ b * 2 ^ (8 * r .depth)
+  shift-exact = mod-eq-of-lt (omega (arith, grown, grown-fits))
+
+  pub choices-fit : r .choices + (b * 2 ^ (8 * r .depth)) % 2 ^ 64 < 2 ^ 64
+  choices-fit = omega (arith, shift-exact, grown, grown-fits)
+
+  unplaced-more : bitAnd (r .unplaced) (255 - (1 * 2 ^ (r .depth)) % 256) ≡ mask 8 (unplaced (r .n) more)
+  unplaced-more =
+      let here : length w < 8 = omega (arith, room, s .few) in
+      ap₂ (λ (m d : ℕ). bitAnd m (255 - (1 * 2 ^ d) % 256)) (stands-unplaced r (r .n) w s) (stands-depth r (r .n) w s)
+      ∙ ap (λ (m : ℕ). bitAnd (mask 8 (unplaced (r .n) w)) (255 - m)) (shifted (length w) here)
+      ∙ mask-drop 8 (unplaced (r .n) w) (length w) here
+      ∙ mask-same 8 _ (unplaced (r .n) more) (λ i l. past (ltb i (r .n)) (length w) (length more) i (length-append w (b ∷ [])))
+
+  unused-more : bitAnd (r .free) (255 - (1 * 2 ^ (bitAnd b 15)) % 256) ≡ mask 8 (unused (r .n) more)
+  unused-more =
+      let here : input-of b < 8 = omega (arith, and-mask b 4, input-room) in
+      ap₂ (λ (m j : ℕ). bitAnd m (255 - (1 * 2 ^ j) % 256)) (stands-free r (r .n) w s) (and-mask b 4)
+      ∙ ap (λ (m : ℕ). bitAnd (mask 8 (unused (r .n) w)) (255 - m)) (shifted (input-of b) here)
+      ∙ mask-drop 8 (unused (r .n) w) (input-of b) here
+      ∙ mask-same 8 _ (unused (r .n) more) (λ j l. but (ltb j (r .n)) w b j)
+
+  pub placed : Stands (record {
+    n = r .n;
+    depth = r .depth + 1;
+    unplaced = bitAnd (r .unplaced) (255 - (1 * 2 ^ (r .depth)) % 256);
+    free = bitAnd (r .free) (255 - (1 * 2 ^ (bitAnd b 15)) % 256);
+    choices = r .choices + (b * 2 ^ (8 * r .depth)) % 2 ^ 64;
+  }) (r .n) more
+  unfolding partial
+  placed =
+      let depth-is : r .depth + 1 ≡ length more = omega (arith, stands-depth r (r .n) w s, length-append w (b ∷ [])) in
+      let choices-is = ap (λ (m : ℕ). r .choices + m) shift-exact ∙ grown in
+      record {
+        is = λ i. record { n = r .n; depth = depth-is i; unplaced = unplaced-more i; free = unused-more i; choices = choices-is i };
+        few = s .few;
+        allowed = allowed-more;
+      }

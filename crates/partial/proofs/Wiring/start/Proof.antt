@@ -1,0 +1,19 @@
+-- All n inputs are unplaced and free: the number 2^n − 1.
+use native.Mathlib.Omega.{arith}
+use borrow.Author.Needs.{needs}
+use lib.Pow.{pow-pos, pow-mono}
+use Rattle.partial.proofs.Standing.{all-inputs, started}
+use Rattle.partial.proofs.Wiring.start.Statement.{statement}
+use Rattle.partial.proofs.Wiring.start.Tie as tie
+
+returns : tie.Need-returns
+returns c = started (c .args .n) (c .pre)
+
+pub start-spec : {M : Type 1} → statement M
+start-spec =
+    tie.close
+    (tie.spec
+    (λ c. search needs)
+    (λ c. omega (arith, all-inputs (c .args .n) (c .pre), pow-pos (c .args .n)))
+    (λ c. omega (arith, all-inputs (c .args .n) (c .pre), pow-mono (c .pre)))
+    returns)

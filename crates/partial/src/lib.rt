@@ -1,0 +1,256 @@
+// The partial wiring, by value: one step gives it the next input's choice and returns it, and it answers where a cube's
+// literals go. With it, the test of one pair and the first dead pair of two records.
+ghost use mathlib.Core.Path.{_≡_};
+ghost use mathlib.Core.Bool.{true, false, cond, _&&_};
+ghost use mathlib.Core.List.{[], map};
+ghost use Prim.Native.Nat.{ℕ, _≤_, _<_, _^_};
+ghost use lib.Dec.{ltb};
+ghost use lib.ListN.{length};
+ghost use Rattle.bits.specs.Bits.{has};
+ghost use Rattle.records.specs.Records.{record-end};
+ghost use Rattle.rules.specs.Lists.{upto, first};
+ghost use Rattle.rules.specs.Rules.{_adding_};
+ghost use Rattle.wirings.specs.Wirings.{input-of, inverted, is-choice, free-choice};
+ghost use Rattle.wirings.specs.Pairs.{separates, dead, cubes-in, side, against, first-dead};
+ghost use Rattle.partial.specs.Partial.{prefix, Stands, Formed, located, carried, opposes, clears, found, row, rows};
+
+// A partial wiring of n inputs: the inputs of f below `depth` have their choices, byte i of `choices` for input i. Two masks
+// say what remains: the inputs of f that are unplaced, and the inputs of g that are free.
+pub struct Wiring {
+    pub n: u8,
+    pub depth: u8,
+    pub unplaced: u8,
+    pub free: u8,
+    pub choices: u64,
+}
+
+// A cube of f carried over to the inputs of g: the inputs that its placed literals ask to be 1, those they ask to be 0, and
+// those at which a literal not yet placed may still come to stand.
+pub struct Carried {
+    pub pos: u8,
+    pub neg: u8,
+    pub free: u8,
+}
+
+// A pair found, as s, u, v; three zeros if none is.
+pub struct Found {
+    pub found: bool,
+    pub s: u8,
+    pub u: usize,
+    pub v: usize,
+}
+
+// List s of a record: 0 its on list, 1 its off list.
+pub fn side(f: &[u8], s: u8) -> &[u8]
+    requires { ⌜ record-end (now f) ≡ length (now f) ⌝ }
+    ensures { λ r. ⌜ now r ≡ side s (now (f .entry)) ⌝ }
+{
+    if s == 0 {
+        return records::on_list(f);
+    }
+    records::off_list(f)
+}
+
+// The list of g from which list s of f is to be kept apart under q.
+pub fn against(q: u8, s: u8) -> u8
+    ensures { λ r. ⌜ r ≡ against q s ⌝ }
+{
+    if q != 0 {
+        return s;
+    }
+    if s == 0 {
+        return 1;
+    }
+    0
+}
+
+// Of two masks the one that a choice takes: the first if it is plain, the second if inverted.
+fn taken(choice: u8, plain: u8, turned: u8) -> u8
+    ensures { λ r. ⌜ r ≡ cond (inverted choice) turned plain ⌝ }
+{
+    if choice < 16 {
+        return plain;
+    }
+    turned
+}
+
+// Bit i of a mask, as bit j.
+fn moved(mask: u8, i: u8, j: u8) -> u8
+    requires { ⌜ i < 8 ⌝ }
+    requires { ⌜ j < 8 ⌝ }
+    ensures { λ r. ⌜ r ≡ cond (has mask i) (2 ^ j) 0 ⌝ }
+{
+    ((mask >> i) & 1) << j
+}
+
+impl Carried {
+    // Whether a placed literal is the opposite of a literal of the cube of g.
+    pub fn opposes(self, pos: u8, neg: u8) -> bool
+        ensures { λ r. ⌜ r ≡ opposes self pos neg ⌝ }
+    {
+        (self.pos & neg) | (self.neg & pos) != 0
+    }
+
+    // Whether no literal of the cube of g is, or may still be, opposed.
+    pub fn clears(self, pos: u8, neg: u8) -> bool
+        ensures { λ r. ⌜ r ≡ clears self pos neg ⌝ }
+    {
+        (self.pos & neg) | (self.neg & pos) | (self.free & (pos | neg)) == 0
+    }
+
+    // The first cube of a list of g that makes a dead pair with this one, cube u of list s of f.
+    fn row(self, list: &[u8], s: u8, u: usize) -> Found
+        ensures { λ r. ⌜ r ≡ found (row self (now (list .entry)) s u) ⌝ }
+    {
+        let end = list.len() / 2;
+        let mut v = 0;
+        while v < end {
+            if self.clears(list[2 * v], list[2 * v + 1]) {
+                return Found {
+                    found: true,
+                    s,
+                    u,
+                    v,
+                };
+            }
+            v += 1;
+        }
+        Found {
+            found: false,
+            s: 0,
+            u: 0,
+            v: 0,
+        }
+    }
+}
+
+impl Wiring {
+    // The empty one of n inputs.
+    pub fn start(n: u8) -> Self
+        requires { ⌜ n ≤ 8 ⌝ }
+        ensures { λ r. ⌜ Stands r n [] ⌝ }
+    {
+        let all = ((1u32 << n) - 1) as u8;
+        Wiring {
+            n,
+            depth: 0,
+            unplaced: all,
+            free: all,
+            choices: 0,
+        }
+    }
+
+    // Whether the input of g that a choice names is free.
+    pub fn free(self, choice: u8) -> bool
+        requires { ⌜ Formed self ⌝ }
+        ensures { λ r. ⌜ r ≡ ltb (input-of choice) (self .n) && free-choice (prefix self) choice ⌝ }
+    {
+        (self.free as u32 >> (choice & 15)) & 1 != 0
+    }
+
+    // The next input of f is given its choice.
+    pub fn place(self, choice: u8) -> Self
+        requires { ⌜ Formed self ⌝ }
+        requires { ⌜ is-choice (self .n) choice ≡ true ⌝ }
+        requires { ⌜ free-choice (prefix self) choice ≡ true ⌝ }
+        ensures { λ r. ⌜ Stands r (self .n) (prefix self adding choice) ⌝ }
+    {
+        Wiring {
+            n: self.n,
+            depth: self.depth + 1,
+            unplaced: self.unplaced & !(1 << self.depth),
+            free: self.free & !(1 << (choice & 15)),
+            choices: self.choices + ((choice as u64) << (8 * self.depth)),
+        }
+    }
+
+    // Where a placed literal goes. A literal is written like a choice: input i as it is, or i + 16 if negated.
+    pub fn locate(self, literal: u8) -> u8
+        requires { ⌜ Formed self ⌝ }
+        requires { ⌜ is-choice (self .depth) literal ≡ true ⌝ }
+        ensures { λ r. ⌜ r ≡ located (prefix self) literal ⌝ }
+    {
+        let choice = ((self.choices >> (8 * (literal & 15))) % 256) as u8;
+        choice ^ (literal & 16)
+    }
+
+    // Where the literals of a cube of f go.
+    pub fn carry(self, pos: u8, neg: u8) -> Carried
+        requires { ⌜ Formed self ⌝ }
+        ensures { λ r. ⌜ r ≡ carried (self .n) (prefix self) pos neg ⌝ }
+    {
+        let mut i = 0u8;
+        let mut ones = 0u8;
+        let mut zeros = 0u8;
+        while i < self.depth {
+            let to = self.locate(i);
+            ones = ones | moved(taken(to, pos, neg), i, to & 15);
+            zeros = zeros | moved(taken(to, neg, pos), i, to & 15);
+            i += 1;
+        }
+        if (pos | neg) & self.unplaced == 0 {
+            return Carried {
+                pos: ones,
+                neg: zeros,
+                free: 0,
+            };
+        }
+        Carried {
+            pos: ones,
+            neg: zeros,
+            free: self.free,
+        }
+    }
+
+    // Whether a placed literal separates the two cubes.
+    pub fn separated(self, pos: u8, neg: u8, pos2: u8, neg2: u8) -> bool
+        requires { ⌜ Formed self ⌝ }
+        ensures { λ r. ⌜ r ≡ separates (prefix self) pos neg pos2 neg2 ⌝ }
+    {
+        self.carry(pos, neg).opposes(pos2, neg2)
+    }
+
+    // Whether the two cubes are a dead pair.
+    pub fn dead(self, pos: u8, neg: u8, pos2: u8, neg2: u8) -> bool
+        requires { ⌜ Formed self ⌝ }
+        ensures { λ r. ⌜ r ≡ dead (self .n) (prefix self) pos neg pos2 neg2 ⌝ }
+    {
+        self.carry(pos, neg).clears(pos2, neg2)
+    }
+
+    // The first dead pair of a list of f, its list s, with a list of g.
+    fn rows(self, list: &[u8], other: &[u8], s: u8) -> Found
+        requires { ⌜ Formed self ⌝ }
+        ensures { λ r. ⌜ r ≡ found (rows (self .n) (prefix self) (now (list .entry)) (now (other .entry)) s) ⌝ }
+    {
+        let end = list.len() / 2;
+        let mut u = 0;
+        while u < end {
+            let pair = self.carry(list[2 * u], list[2 * u + 1]).row(other, s, u);
+            if pair.found {
+                return pair;
+            }
+            u += 1;
+        }
+        Found {
+            found: false,
+            s: 0,
+            u: 0,
+            v: 0,
+        }
+    }
+
+    // The first dead pair of f and g under q, in order of s, u, v.
+    pub fn first_dead(self, f: &[u8], g: &[u8], q: u8) -> Found
+        requires { ⌜ Formed self ⌝ }
+        requires { ⌜ record-end (now f) ≡ length (now f) ⌝ }
+        requires { ⌜ record-end (now g) ≡ length (now g) ⌝ }
+        ensures { λ r. ⌜ r ≡ found (first-dead (self .n) q (now (f .entry)) (now (g .entry)) (prefix self)) ⌝ }
+    {
+        let on = self.rows(side(f, 0), side(g, against(q, 0)), 0);
+        if on.found {
+            return on;
+        }
+        self.rows(side(f, 1), side(g, against(q, 1)), 1)
+    }
+}

@@ -1,0 +1,92 @@
+-- Cutting off. The idea: a test of death is true only of choices from which no completion passes, and is true of whole ways
+-- that do not pass. A walk that drops dead choices then finds exactly what passes, in the same order.
+use Prim.Native.Nat.{ℕ, zero, suc, _+_}
+use mathlib.Core.Path.{_≡_, refl, sym, ap, _∙_, fun-ext}
+use mathlib.Core.Bool.{Bool, true, false, cond, true≢false}
+use mathlib.Core.List.{List, [], _∷_, flatMap}
+use mathlib.Core.Option.{Option, none, some}
+use mathlib.Core.Logic.{⊎-elim}
+use native.Mathlib.Omega.{arith}
+use lib.ListN.{length, length-append}
+use Rattle.bits.proofs.Tests.{both, decide}
+use Rattle.rules.specs.Lists.{filter, first}
+use Rattle.rules.specs.Rules.{Rule, _adding_, next, completions, follows}
+use Rattle.rules.proofs.Lists.{In, flat-same, filter-none, filter-flat, first-of, first-none, first-flat, first-filter}
+use Rattle.rules.proofs.Completions.{next-may, follows-append}
+
+-- ---- the walk, under a rule, past what is dead
+
+module _ (R : Rule) (dead : List ℕ → Bool) where
+  -- the first whole way met
+  unfoldable pub hunt : ℕ → List ℕ → Option (List ℕ)
+  hunt zero w = cond (dead w) none (some w)
+  hunt (suc k) w = cond (dead w) none (first-of (λ b. hunt k (w adding b)) (next R w))
+
+  -- every whole way met
+  unfoldable pub gather : ℕ → List ℕ → List (List ℕ)
+  unfolding flatMap
+  gather zero w = cond (dead w) [] (w ∷ [])
+  gather (suc k) w = cond (dead w) [] (flatMap (λ b. gather k (w adding b)) (next R w))
+
+  -- the first is the head of them all
+  hunt-gather : (k : ℕ) (w : List ℕ) → hunt k w ≡ first (λ v. true) (gather k w)
+  unfolding hunt gather first
+  hunt-gather zero w = elim (dead w) as (λ b. cond b none (some w) ≡ first (λ v. true) (cond b [] (w ∷ []))) [ true ↦ refl | false ↦ refl ]
+  hunt-gather (suc k) w =
+      elim (dead w) as (λ b. cond b none (first-of (λ a. hunt k (w adding a)) (next R w)) ≡ first (λ v. true) (cond b [] (flatMap (λ a. gather k (w adding a)) (next R w)))) [
+        | true ↦ refl
+        | false ↦
+            ap (λ (f : ℕ → Option (List ℕ)). first-of f (next R w)) (fun-ext (λ a. hunt-gather k (w adding a)))
+            ∙ sym (first-flat (λ v. true) (λ a. gather k (w adding a)) (next R w))
+      ]
+
+module _ (R : Rule) (n : ℕ) where
+  -- choices w that the rule allows, with k of the n to come
+  pub record Reached (k : ℕ) (w : List ℕ) : Type 0 where
+    pub total : k + length w ≡ n
+    pub allowed : follows R [] w ≡ true
+
+  -- one choice more that may follow
+  pub reached-next : (k : ℕ) (w : List ℕ) (b : ℕ) → Reached (suc k) w → In b (next R w) → Reached k (w adding b)
+  unfolding follows
+  reached-next k w b r i = record {
+    total = omega (arith, length-append w (b ∷ []));
+    allowed = follows-append R [] w (b ∷ []) ∙ both (r .allowed) (both (next-may R w b i) refl);
+  }
+
+  module _ (passes dead : List ℕ → Bool) where
+    -- what a test of death needs: from dead choices nothing passes, and a whole way that does not pass is dead
+    pub record Death : Type 0 where
+      pub dies : (k : ℕ) (w : List ℕ) → Reached k w → dead w ≡ true → (v : List ℕ) → In v (completions R k w) → passes v ≡ false
+      pub shows : (w : List ℕ) → Reached 0 w → passes w ≡ false → dead w ≡ true
+
+    module _ (d : Death) where
+      -- of dead choices nothing is lost, and a whole way that is not dead passes
+      pub cut-first : (k : ℕ) (w : List ℕ) → Reached k w → dead w ≡ true → first passes (completions R k w) ≡ none
+      cut-first k w r p = first-none passes (completions R k w) (d .dies k w r p)
+
+      pub cut-filter : (k : ℕ) (w : List ℕ) → Reached k w → dead w ≡ true → filter passes (completions R k w) ≡ []
+      cut-filter k w r p = filter-none passes (completions R k w) (d .dies k w r p)
+
+      pub whole-passes : (w : List ℕ) → Reached 0 w → dead w ≡ false → passes w ≡ true
+      whole-passes w r e = ⊎-elim (λ p. p) (λ (p : passes w ≡ false). absurd (true≢false (sym (d .shows w r p) ∙ e))) (decide (passes w))
+
+      -- one step of the walk: nothing where w is dead, and else what it meets further on
+      past : (k : ℕ) (w : List ℕ) → Reached k w → (met : List (List ℕ)) → (dead w ≡ false → met ≡ filter passes (completions R k w))
+          → cond (dead w) [] met ≡ filter passes (completions R k w)
+      past k w r met h = ⊎-elim (λ (p : dead w ≡ true). rw p (sym (cut-filter k w r p))) (λ (p : dead w ≡ false). rw p (h p)) (decide (dead w))
+
+      -- the walk meets what passes, and nothing else
+      pub gather-filter : (k : ℕ) (w : List ℕ) → Reached k w → gather R dead k w ≡ filter passes (completions R k w)
+      unfolding gather completions filter
+      gather-filter zero w r = past zero w r (w ∷ []) (λ p. ap (λ (b : Bool). cond b (w ∷ []) []) (sym (whole-passes w r p)))
+      gather-filter (suc k) w r =
+          past (suc k) w r (flatMap (λ b. gather R dead k (w adding b)) (next R w))
+          (λ _.
+          flat-same (λ b. gather R dead k (w adding b)) (λ b. filter passes (completions R k (w adding b))) (next R w) (λ b i. gather-filter k (w adding b) (reached-next k w b r i))
+          ∙ sym (filter-flat passes (λ b. completions R k (w adding b)) (next R w)))
+
+      -- so the first that it meets is the first that passes
+      pub hunt-first : (k : ℕ) (w : List ℕ) → Reached k w → hunt R dead k w ≡ first passes (completions R k w)
+      hunt-first k w r =
+          hunt-gather R dead k w ∙ ap (first (λ v. true)) (gather-filter k w r) ∙ sym (first-filter passes (completions R k w))

@@ -1,0 +1,5 @@
+pub mod Lists
+pub mod Seek
+pub mod Completions
+pub mod Order
+pub mod Cut

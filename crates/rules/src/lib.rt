@@ -1,0 +1,1 @@
+// Choice rules: definitions and laws, no code.

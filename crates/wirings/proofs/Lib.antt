@@ -1,0 +1,4 @@
+pub mod Choices
+pub mod Wirings
+pub mod Dead
+pub mod Examples

@@ -1,0 +1,92 @@
+-- Pairs of cubes to be kept apart, in the words of document 01: separated, and dead. P and N are the cube of f, P′ and N′
+-- the cube of g.
+use Prim.Native.Nat.{ℕ, _+_, _-_, _*_, _/_}
+use mathlib.Core.Bool.{Bool, cond, not, _&&_, _||_}
+use mathlib.Core.List.{List, [], _∷_, map, flatMap}
+use mathlib.Core.Option.{Option}
+use lib.Dec.{leb, eqb}
+use lib.ListN.{length, getD}
+use Rattle.bits.specs.Bits.{has, mask, any}
+use Rattle.cubes.specs.Cubes.{cube-names}
+use Rattle.rules.specs.Lists.{upto, first}
+use Rattle.records.specs.Records.{on-list, off-list}
+use Rattle.wirings.specs.Wirings.{input-of, inverted, uses}
+
+-- ---- separated: some literal of the one, carried over, is the opposite of a literal of the other
+
+-- a literal of the cube on input i, carried over by choice b, asks for 1, or for 0
+abbrev pub asks-one : ℕ → ℕ → ℕ → ℕ → Bool
+asks-one b P N i = cond (inverted b) (has N i) (has P i)
+
+abbrev pub asks-zero : ℕ → ℕ → ℕ → ℕ → Bool
+asks-zero b P N i = cond (inverted b) (has P i) (has N i)
+
+-- and the cube of g asks the opposite there
+abbrev pub opposed : ℕ → ℕ → ℕ → ℕ → ℕ → ℕ → Bool
+opposed b P N P′ N′ i = asks-one b P N i && has N′ (input-of b) || asks-zero b P N i && has P′ (input-of b)
+
+-- some placed literal separates the cubes; of a whole wiring, the wiring does
+unfoldable pub separates : List ℕ → ℕ → ℕ → ℕ → ℕ → Bool
+separates w P N P′ N′ = any (length w) (λ i. opposed (getD w i 0) P N P′ N′ i)
+
+-- ---- a cube carried over, as masks: the inputs of g that its placed literals ask to be 1, and those they ask to be 0
+
+-- of the literals on the first d inputs, one carried over to input j of g asks so
+abbrev pub lands : (ℕ → ℕ → ℕ → ℕ → Bool) → List ℕ → ℕ → ℕ → ℕ → ℕ → Bool
+lands asks w d P N j = any d (λ i. eqb j (input-of (getD w i 0)) && asks (getD w i 0) P N i)
+
+abbrev pub carried-pos : List ℕ → ℕ → ℕ → ℕ
+carried-pos w P N = mask 8 (lands asks-one w (length w) P N)
+
+abbrev pub carried-neg : List ℕ → ℕ → ℕ → ℕ
+carried-neg w P N = mask 8 (lands asks-zero w (length w) P N)
+
+-- ---- dead: no placed literal separates the cubes, and the cube of f has no literal on an unplaced input or the cube of g
+-- none on an unused one
+
+abbrev pub unplaced-literal : ℕ → List ℕ → ℕ → ℕ → Bool
+unplaced-literal n w P N = any n (λ i. leb (length w) i && cube-names P N i)
+
+abbrev pub unused-literal : ℕ → List ℕ → ℕ → ℕ → Bool
+unused-literal n w P′ N′ = any n (λ j. not (uses w j) && cube-names P′ N′ j)
+
+unfoldable pub dead : ℕ → List ℕ → ℕ → ℕ → ℕ → ℕ → Bool
+dead n w P N P′ N′ = not (separates w P N P′ N′) && (not (unplaced-literal n w P N) || not (unused-literal n w P′ N′))
+
+-- ---- the pairs to be kept apart under q, as s, u, v: cube u of f's on list (s = 0) or off list (s = 1), and cube v of the
+-- list of g from which it must be kept apart
+
+abbrev pub cubes-in : List ℕ → ℕ
+cubes-in l = length l / 2
+
+unfoldable pub side : ℕ → List ℕ → List ℕ
+side s f = cond (eqb s 0) (on-list f) (off-list f)
+
+-- with q = 0, on against off and off against on; with q = 1, on against on and off against off
+unfoldable pub against : ℕ → ℕ → ℕ
+against q s = cond (eqb q 0) (1 - s) s
+
+abbrev pub Pair : Type 0
+Pair = ℕ × ℕ × ℕ
+
+-- all of them, in order of s, u, v
+unfoldable pub pairs : ℕ → List ℕ → List ℕ → List Pair
+unfolding flatMap
+pairs q f g =
+    flatMap (λ s.
+    flatMap (λ u.
+    map (λ v. (s, u, v))
+    (upto (cubes-in (side (against q s) g))))
+    (upto (cubes-in (side s f))))
+    (0 ∷ 1 ∷ [])
+
+-- a test of two cubes, of the pair s, u, v
+abbrev pub of-pair : ℕ → List ℕ → List ℕ → (ℕ → ℕ → ℕ → ℕ → Bool) → Pair → Bool
+of-pair q f g t p =
+    let l = side (p .0) f in
+    let m = side (against q (p .0)) g in
+    t (getD l (2 * p .1) 0) (getD l (2 * p .1 + 1) 0) (getD m (2 * p .2) 0) (getD m (2 * p .2 + 1) 0)
+
+-- the first dead pair, in order of s, u, v
+unfoldable pub first-dead : ℕ → ℕ → List ℕ → List ℕ → List ℕ → Option Pair
+first-dead n q f g w = first (of-pair q f g (dead n w)) (pairs q f g)

@@ -1,0 +1,1 @@
+// Wirings: definitions and laws, no code.
