@@ -125,3 +125,28 @@ count-apart p q (suc n) f = go (p n) (q n) refl refl (count-apart p q n (λ k h.
     go true false e d h = omega arith
     go false true e d h = omega arith
     go false false e d h = omega arith
+
+-- every number passes
+pub count-all : (n : ℕ) → count n (λ j. true) ≡ n
+unfolding count
+count-all zero = refl
+count-all (suc n) = omega (arith, count-all n)
+
+-- where some number is counted, one passes
+pub count-at : (p : ℕ → Bool) (n : ℕ) → 0 < count n p → (j : ℕ) × (j < n) × (p j ≡ true)
+unfolding count
+count-at p zero h = absurd (not-suc-le-zero h)
+count-at p (suc n) h = go (p n) refl h (λ h. count-at p n h)
+  where
+    go : (t : Bool) → p n ≡ t → 0 < count n p + cond t 1 0 → (0 < count n p → (j : ℕ) × (j < n) × (p j ≡ true)) → (j : ℕ) × (j < suc n) × (p j ≡ true)
+    go true e h f = (n, le-refl (suc n), e)
+    go false e h f = let w = f (omega arith) in (w .0, le-step (w .1), w .2)
+
+-- a test that fails at i alone, where another passes, counts one less
+pub count-less : (p q : ℕ → Bool) (n i : ℕ) → i < n → p i ≡ true → q i ≡ false → ((j : ℕ) → (i ≡ j → ⊥) → q j ≡ p j) → suc (count n q) ≡ count n p
+unfolding count
+count-less p q zero i h e d f = absurd (not-suc-le-zero h)
+count-less p q (suc n) i h e d f =
+    ⊎-elim (λ (s : i ≡ n). let c = count-same q p n (λ j l. f j (λ r. omega arith)) in simp (ap q (sym s) ∙ d, ap p (sym s) ∙ e) (omega arith))
+    (λ (l : i < n). simp (f n (λ r. omega arith)) (omega (arith, count-less p q n i l e d f)))
+    (below-suc h)

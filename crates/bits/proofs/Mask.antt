@@ -1,18 +1,18 @@
 -- Masks: the number whose bit i says whether i passes a test. A number below 2^k is the mask of its own bits, so what an
 -- operator of the code does to a mask is shown bit by bit (`mask-is`).
 use Prim.Native.Nat.{ℕ, zero, suc, _+_, _-_, _^_, _≤_, _<_}
-use mathlib.Core.Path.{_≡_, refl, sym, ap, ap₂, _∙_}
-use mathlib.Core.Bool.{Bool, true, false, cond, not, _&&_, _||_}
+use mathlib.Core.Path.{_≡_, refl, sym, ap, ap₂, _∙_, subst}
+use mathlib.Core.Bool.{Bool, true, false, cond, not, _&&_, _||_, and-true, and-false}
 use mathlib.Core.Logic.{⊎-elim}
-use native.Mathlib.Nat.{lt-of-le-of-lt, sub-zero}
+use native.Mathlib.Nat.{lt-of-le-of-lt, sub-zero, le-trans}
 use native.Mathlib.Omega.{arith}
 use borrow.Author.Tests.{lt-ltb, le-ltb, eq-eqb, ne-eqb}
 use lib.Bits.{bitAnd, bitOr, and-le-l, or-lt}
 use lib.Dec.{eqb, ltb}
 use lib.Pow.{pow-pos, pow-mono, pow-lt}
-use Rattle.bits.specs.Bits.{bit, has, number, mask}
-use Rattle.bits.proofs.Tests.{and-true, and-false, below-or-not}
-use Rattle.bits.proofs.Bit.{bit-le, bit-zero, has-zero, has-or, has-and, bit-above, bit-pow, bit-not, bits-eq, counted, number-lt, number-bit}
+use Rattle.bits.specs.Bits.{bit, has, mask}
+use Rattle.bits.proofs.Tests.{below-or-not}
+use Rattle.bits.proofs.Bit.{has-zero, has-or, has-and, bit-above, bit-pow, bit-not, bits-eq, counted, number-lt, number-bit}
 
 flag-le : (b : Bool) → cond b 1 0 ≤ 1
 flag-le true = omega arith
@@ -42,6 +42,12 @@ module _ (k : ℕ) (t : ℕ → Bool) where
 
 pub mask-same : (k : ℕ) (t u : ℕ → Bool) → ((i : ℕ) → i < k → t i ≡ u i) → mask k t ≡ mask k u
 mask-same k t u f = mask-is k u (mask k t) (mask-lt k t) (λ i l. mask-has k t i l ∙ f i l)
+
+-- a mask of numbers below n alone is below 2^n
+pub narrow-mask : (k n : ℕ) → n ≤ k → (t : ℕ → Bool) → ((i : ℕ) → n ≤ i → t i ≡ false) → mask k t < 2 ^ n
+narrow-mask k n h t none =
+    let narrow = mask-is k t (mask n t) (le-trans (mask-lt n t) (pow-mono h)) (λ i _. ⊎-elim (mask-has n t i) (λ l. mask-above n t i l ∙ sym (none i l)) (below-or-not i n)) in
+    subst (λ (m : ℕ). m < 2 ^ n) narrow (mask-lt n t)
 
 -- no number passes
 pub mask-none : (k : ℕ) (t : ℕ → Bool) → ((i : ℕ) → i < k → t i ≡ false) → mask k t ≡ 0

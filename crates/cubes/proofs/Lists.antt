@@ -2,17 +2,17 @@
 -- `at + 2`; a loop keeps "what remains decides the whole".
 use Prim.Native.Nat.{ℕ, zero, suc, _+_, _*_, _^_, _≤_, _<_}
 use mathlib.Core.Path.{_≡_, refl, sym, ap, ap₂, _∙_, subst}
-use mathlib.Core.Bool.{Bool, true, false, _&&_, _||_, false≢true}
+use mathlib.Core.Bool.{Bool, true, false, _&&_, _||_, false≢true, and-false, and-comm, and-or-distrib-left}
 use mathlib.Core.List.{List, [], _∷_}
 use mathlib.Core.Logic.{⊎-elim}
 use native.Mathlib.Numerals.{add-one, add-two}
 use native.Mathlib.Omega.{arith}
 use lib.ListN.{length, getD, take, drop, length-drop}
 use lib.Seq.{drop-cons}
-use Rattle.bits.proofs.Tests.{or-left, either, and-false, and-or}
-use Rattle.bits.proofs.Below.{any-or, any-never}
+use Rattle.bits.proofs.Tests.{or-left, either}
+use Rattle.bits.proofs.Below.{any-or, any-never, any-same}
 use Rattle.bits.specs.Bits.{any}
-use Rattle.cubes.specs.Cubes.{some-cube}
+use Rattle.cubes.specs.Cubes.{cube-holds, some-cube, some-holds}
 
 -- what remains at a place with a whole cube: the cube, and what comes after it
 pub cube-there : (l : List ℕ) (at : ℕ) → at + 1 < length l → drop at l ≡ getD l at 0 ∷ getD l (at + 1) 0 ∷ drop (at + 2) l
@@ -137,4 +137,17 @@ pub some-and : (a : Bool) (t : ℕ → ℕ → Bool) (l : List ℕ) → some-cub
 unfolding some-cube
 some-and a t [] = sym (and-false a)
 some-and a t (P ∷ []) = sym (and-false a)
-some-and a t (P ∷ N ∷ l) = ap (λ (b : Bool). a && t P N || b) (some-and a t l) ∙ sym (and-or a (t P N) (some-cube t l))
+some-and a t (P ∷ N ∷ l) = ap (λ (b : Bool). a && t P N || b) (some-and a t l) ∙ sym (and-or-distrib-left a (t P N) (some-cube t l))
+
+-- two lists of cubes meet at some y, the one read at h y: two of their cubes do exactly when the lists do
+pub lists-meet : (m : ℕ) (h : ℕ → ℕ) (l l′ : List ℕ)
+    → some-cube (λ P N. some-cube (λ P′ N′. any m (λ y. cube-holds P N (h y) && cube-holds P′ N′ y)) l′) l ≡ any m (λ y. some-holds l (h y) && some-holds l′ y)
+lists-meet m h l l′ = some-same _ _ l (each-all _ inner l) ∙ some-any m (λ P N y. cube-holds P N (h y) && some-holds l′ y) l ∙ any-same _ _ m outer
+  where
+    inner : (P N : ℕ) → some-cube (λ P′ N′. any m (λ y. cube-holds P N (h y) && cube-holds P′ N′ y)) l′ ≡ any m (λ y. cube-holds P N (h y) && some-holds l′ y)
+    inner P N = some-any m (λ P′ N′ y. cube-holds P N (h y) && cube-holds P′ N′ y) l′ ∙ any-same _ _ m (λ y _. some-and (cube-holds P N (h y)) (λ P′ N′. cube-holds P′ N′ y) l′)
+
+    outer : (y : ℕ) → y < m → some-cube (λ P N. cube-holds P N (h y) && some-holds l′ y) l ≡ some-holds l (h y) && some-holds l′ y
+    outer y _ =
+        let there = some-holds l′ y in
+        some-same _ _ l (each-all _ (λ P N. and-comm (cube-holds P N (h y)) there) l) ∙ some-and there _ l ∙ and-comm there (some-holds l (h y))

@@ -1,30 +1,30 @@
 -- A cube carried over, by masks. The idea: at each input of g the three masks say what the definitions say of literals, so
 -- that two tests of masks decide whether a pair is separated and whether it is dead.
-use Prim.Native.Nat.{ℕ, suc, _+_, _*_, _/_, _%_, _^_, _≤_, _<_}
-use mathlib.Core.Path.{_≡_, refl, sym, ap, ap₂, _∙_, subst}
-use mathlib.Core.Bool.{Bool, true, false, cond, not, _&&_, _||_, and-assoc}
+use Prim.Native.Nat.{ℕ, _+_, _^_, _≤_, _<_}
+use mathlib.Core.Path.{_≡_, refl, sym, ap, ap₂, _∙_}
+use mathlib.Core.Bool.{Bool, true, false, cond, not, _&&_, _||_, and-assoc, and-comm}
 use mathlib.Core.List.{List, []}
-use mathlib.Core.Logic.{⊎-elim}
-use native.Mathlib.Nat.{lt-of-le-of-lt, le-refl}
+use native.Mathlib.Nat.{lt-of-le-of-lt, lt-of-lt-of-le}
 use native.Mathlib.Numerals.{add-one}
 use native.Mathlib.Omega.{arith}
-use borrow.Author.Tests.{eqb-true, eq-eqb, ne-eqb}
+use borrow.Author.Tests.{eq-eqb, ne-eqb}
 use lib.Bits.{bitAnd, bitOr, and-le-r, or-lt, and-mask}
 use lib.Dec.{leb, ltb, eqb}
 use lib.ListN.{length, getD}
 use Rattle.bits.specs.Bits.{has, mask, any}
-use Rattle.bits.proofs.Tests.{both, both-left, both-right, and-comm, same-test}
-use Rattle.bits.proofs.Below.{any-at, any-if, any-or, any-same, any-under, any-never}
+use Rattle.bits.proofs.Below.{any-or, any-same, any-under, any-never}
 use Rattle.bits.proofs.Bit.{has-or, has-and, has-zero, any-bit}
-use Rattle.bits.proofs.Mask.{mask-lt, mask-has, mask-above, mask-none, mask-same, mask-add}
+use Rattle.bits.proofs.Mask.{mask-lt, mask-has, mask-none, mask-same, mask-add}
 use Rattle.cubes.specs.Cubes.{cube-names}
 use Rattle.rules.specs.Rules.{follows}
 use Rattle.wirings.specs.Wirings.{input-of, inverted, uses, straight}
-use Rattle.wirings.specs.Pairs.{asks-one, asks-zero, lands, carried-pos, carried-neg, opposed, separates, unplaced-literal, unused-literal, dead}
+use Rattle.wirings.specs.Pairs.{asks-one, asks-zero, lands, carried-pos, carried-neg, separates, unplaced-literal, unused-literal, dead}
 use Rattle.partial.specs.declared.Carried.{Carried}
 use Rattle.partial.specs.declared.Wiring.{Wiring}
 use Rattle.partial.specs.Partial.{unplaced, unused, prefix, Formed, located, carried, opposes, clears}
-use Rattle.partial.proofs.Standing.{placed-input, located-plain, stands-unplaced, stands-free}
+use Rattle.partial.proofs.Standing.{located-plain, stands-unplaced, stands-free}
+use Rattle.wirings.proofs.Choices.{placed-input}
+use Rattle.wirings.proofs.Agreement.{lands-any}
 
 -- ---- the tests by masks
 
@@ -98,42 +98,14 @@ module _ (n : ℕ) (few : n ≤ 8) (w : List ℕ) (allowed : follows (straight n
   abbrev choice : ℕ → ℕ
   choice i = getD w i 0
 
-  -- a literal carried over meets a literal of g where it lands, at the input that its choice names
-  meets-landed : (asks : ℕ → ℕ → ℕ → ℕ → Bool) (M : ℕ)
-      → any 8 (λ j. has (mask 8 (lands asks w (length w) P N)) j && has M j) ≡ any (length w) (λ i. asks (choice i) P N i && has M (input-of (choice i)))
-  meets-landed asks M = same-test _ _ forth back
-    where
-      there : (j : ℕ) → j < 8 → has (mask 8 (lands asks w (length w) P N)) j ≡ lands asks w (length w) P N j
-      there = mask-has 8 (lands asks w (length w) P N)
-
-      forth : any 8 (λ j. has (mask 8 (lands asks w (length w) P N)) j && has M j) ≡ true → any (length w) (λ i. asks (choice i) P N i && has M (input-of (choice i))) ≡ true
-      forth e =
-          let x = any-at (λ j. has (mask 8 (lands asks w (length w) P N)) j && has M j) 8 e in
-          let j = x .0 in
-          let lit = both-left (has (mask 8 (lands asks w (length w) P N)) j) (has M j) (x .2) in
-          let y = any-at (λ i. eqb j (input-of (choice i)) && asks (choice i) P N i) (length w) (sym (there j (x .1)) ∙ lit) in
-          let i = y .0 in
-          let here = eqb-true j (input-of (choice i)) (both-left (eqb j (input-of (choice i))) (asks (choice i) P N i) (y .2)) in
-          any-if (λ i. asks (choice i) P N i && has M (input-of (choice i))) (length w) i (y .1)
-          (both (both-right (eqb j (input-of (choice i))) (asks (choice i) P N i) (y .2))
-          (ap (has M) (sym here) ∙ both-right (has (mask 8 (lands asks w (length w) P N)) j) (has M j) (x .2)))
-
-      back : any (length w) (λ i. asks (choice i) P N i && has M (input-of (choice i))) ≡ true → any 8 (λ j. has (mask 8 (lands asks w (length w) P N)) j && has M j) ≡ true
-      back e =
-          let x = any-at (λ i. asks (choice i) P N i && has M (input-of (choice i))) (length w) e in
-          let i = x .0 in
-          let j = input-of (choice i) in
-          let h = placed-input n few w allowed i (x .1) in
-          any-if (λ j. has (mask 8 (lands asks w (length w) P N)) j && has M j) 8 j h
-          (both
-          (there j h ∙ any-if (λ k. eqb j (input-of (choice k)) && asks (choice k) P N k) (length w) i (x .1) (both (eq-eqb j j refl) (both-left (asks (choice i) P N i) (has M j) (x .2))))
-          (both-right (asks (choice i) P N i) (has M j) (x .2)))
+  inside : (i : ℕ) → i < length w → input-of (choice i) < 8
+  inside i h = lt-of-lt-of-le (placed-input n (omega arith) w allowed i h) few
 
   pub opposes-separates : opposes (carried n w P N) P′ N′ ≡ separates w P N P′ N′
   unfolding opposes carried separates
   opposes-separates =
       sym (any-or (λ j. has (carried-pos w P N) j && has N′ j) (λ j. has (carried-neg w P N) j && has P′ j) 8)
-      ∙ ap₂ _||_ (meets-landed asks-one N′) (meets-landed asks-zero P′)
+      ∙ ap₂ _||_ (lands-any asks-one w P N inside N′) (lands-any asks-zero w P N inside P′)
       ∙ any-or (λ i. asks-one (choice i) P N i && has N′ (input-of (choice i))) (λ i. asks-zero (choice i) P N i && has P′ (input-of (choice i))) (length w)
 
   pub clears-dead : clears (carried n w P N) P′ N′ ≡ dead n w P N P′ N′

@@ -2,3 +2,4 @@ pub mod Packed
 pub mod Standing
 pub mod Carrying
 pub mod Rows
+pub mod Settled

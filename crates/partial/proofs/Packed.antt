@@ -1,13 +1,13 @@
 -- Choice bytes in one number, eight bits each: what a shift by 8·i finds, and what one byte more adds.
-use Prim.Native.Nat.{ℕ, zero, suc, _+_, _*_, _/_, _%_, _^_, _≤_, _<_}
-use mathlib.Core.Path.{_≡_, refl, sym, ap, ap₂, _∙_, subst}
-use mathlib.Core.List.{List, [], _∷_, _++_}
+use Prim.Native.Nat.{ℕ, zero, suc, _+_, _*_, _/_, _%_, _^_, _<_}
+use mathlib.Core.Path.{_≡_, refl, sym, ap, ap₂, _∙_}
+use mathlib.Core.List.{List, [], _∷_}
 use native.Mathlib.Nat.{mul-assoc, mul-comm, div-one}
 use native.Mathlib.Omega.{arith}
 use lib.ListN.{length, getD}
 use lib.Pow.{pow-add, shr-shr}
-use Rattle.rules.specs.Rules.{_adding_}
 use Rattle.partial.specs.Partial.{packed, unpacked}
+use Rattle.rules.specs.Rules.{_adding_}
 
 -- each is a byte
 abbrev pub Bytes : List ℕ → Type 0

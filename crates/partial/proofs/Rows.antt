@@ -8,12 +8,11 @@ use mathlib.Core.Option.{Option, none, some}
 use lib.ListN.{getD}
 use Rattle.rules.specs.Lists.{upto, first}
 use Rattle.rules.specs.Rules.{follows}
-use Rattle.rules.proofs.Lists.{In, map-in, flat-in, _else_, first-of, first-same, first-flat}
+use Rattle.rules.proofs.Lists.{map-in, flat-in, first-of, first-same, first-flat, _else_}
 use Rattle.rules.proofs.Seek.{Seek, seek-found, seek-goes, seek-ends, first-given, else-nothing}
 use Rattle.wirings.specs.Wirings.{straight}
 use Rattle.wirings.specs.Pairs.{dead, cubes-in, Pair, pairs, of-pair, first-dead, side, against}
 use Rattle.partial.specs.declared.Carried.{Carried}
-use Rattle.partial.specs.declared.Found.{Found}
 use Rattle.partial.specs.Partial.{carried, clears, found, row, rows}
 use Rattle.partial.proofs.Carrying.{clears-dead}
 

@@ -2,45 +2,32 @@
 -- back from it, so that a caller knows a wiring by n and its choices alone.
 use Prim.Native.Nat.{ℕ, zero, suc, _+_, _-_, _*_, _/_, _%_, _≤_, _<_, _^_}
 use mathlib.Core.Path.{_≡_, refl, sym, ap, ap₂, _∙_, subst, subst₂}
-use mathlib.Core.Bool.{Bool, true, false, cond, not, _&&_, _||_}
-use mathlib.Core.List.{List, [], _∷_, _++_}
+use mathlib.Core.Bool.{Bool, true, false, cond, not, _&&_, _||_, and-true}
+use mathlib.Core.List.{List, [], _∷_}
 use mathlib.Core.Logic.{⊎-elim}
-use native.Mathlib.Nat.{le-trans, lt-of-lt-of-le, one-mul, mod-eq-of-lt, mul-le-mul-right, le-refl}
+use native.Mathlib.Nat.{le-trans, lt-of-lt-of-le, one-mul, mod-eq-of-lt}
 use native.Mathlib.Omega.{arith}
 use borrow.Author.Tests.{not-true, leb-true, le-leb, lt-leb, le-ltb, eqb-false, ne-eqb}
 use lib.Bits.{bitAnd, bitXor, and-mask, and-high, xor-zero-r, xor-add-and}
 use lib.Dec.{eqb, ltb, leb, lit<}
 use lib.ListN.{length, getD, length-append, List·getD-eq-default}
-use lib.Pow.{pow-lt, pow-mono, pow-pos, shl-exact}
-use Rattle.bits.specs.Bits.{bit, has, mask}
-use Rattle.bits.proofs.Tests.{both, both-left, both-right, and-true, same-test, eqb-comm, below-or-not}
+use lib.Pow.{pow-lt, pow-mono, shl-exact}
+use Rattle.bits.specs.Bits.{bit, mask}
+use Rattle.bits.proofs.Tests.{both, both-left, both-right, same-test, eqb-comm, below-or-not}
 use Rattle.bits.proofs.Bit.{bit-le}
 use Rattle.bits.proofs.Mask.{mask-has, mask-above, mask-same, mask-drop, mask-low}
-use Rattle.rules.specs.Lists.{some-in, each-in}
-use Rattle.rules.specs.Rules.{_adding_, follows}
-use Rattle.wirings.specs.Wirings.{input-of, inverted, straight, is-choice, apart, uses, free-choice}
-use Rattle.wirings.proofs.Choices.{choice-input, choice-byte, plain-choice, follows-is, place-next, free-count, uses-append}
+use Rattle.rules.specs.Lists.{some-in}
+use Rattle.rules.specs.Rules.{follows, _adding_}
+use Rattle.wirings.specs.Wirings.{input-of, inverted, straight, is-choice, uses, free-choice}
+use Rattle.wirings.proofs.Choices.{choice-input, choice-byte, plain-choice, place-next, free-count, uses-adding, placed-choice, placed-input}
 use Rattle.partial.specs.declared.Wiring.{Wiring}
 use Rattle.partial.specs.Partial.{packed, unplaced, unused, partial, prefix, Stands, Formed, located}
 use Rattle.partial.proofs.Packed.{Bytes, packed-lt, packed-add, packed-at, unpacked-packed}
 
-each-getD : (t : ℕ → Bool) (w : List ℕ) → each-in t w ≡ true → (i : ℕ) → i < length w → t (getD w i 0) ≡ true
-unfolding each-in
-each-getD t [] e i h = absurd (omega (arith, h))
-each-getD t (b ∷ w) e zero h = both-left (t b) (each-in t w) e
-each-getD t (b ∷ w) e (suc i) h = each-getD t w (both-right (t b) (each-in t w) e) i (omega arith)
-
 module _ (n : ℕ) (few : n ≤ 8) (w : List ℕ) (allowed : follows (straight n) [] w ≡ true) where
-  -- each placed choice is a choice byte of n inputs
-  pub placed-choice : (i : ℕ) → i < length w → is-choice n (getD w i 0) ≡ true
-  placed-choice = each-getD (is-choice n) w (both-left (each-in (is-choice n) w) (apart w) (sym (follows-is n w) ∙ allowed))
-
-  pub placed-input : (i : ℕ) → i < length w → input-of (getD w i 0) < 8
-  placed-input i h = lt-of-lt-of-le (choice-input n (omega arith) (getD w i 0) (placed-choice i h)) few
-
   pub placed-bytes : Bytes w
   placed-bytes i =
-      ⊎-elim (λ (h : i < length w). le-trans (choice-byte n (omega arith) (getD w i 0) (placed-choice i h)) (omega arith))
+      ⊎-elim (λ (h : i < length w). le-trans (choice-byte n (omega arith) (getD w i 0) (placed-choice n (omega arith) w allowed i h)) (omega arith))
       (λ (h : length w ≤ i). omega (arith, List·getD-eq-default w 0 h))
       (below-or-not i (length w))
 
@@ -141,7 +128,7 @@ module _ (r : Wiring) (l : ℕ) (s : Formed r) (literal : is-choice (r .depth) l
       let b = getD w (input-of l) 0 in
       let found : r .choices / 2 ^ (8 * bitAnd l 15) % 256 ≡ b =
       ap₂ (λ (c i : ℕ). c / 2 ^ (8 * i) % 256) (stands-choices r (r .n) w s) (and-mask l 4) ∙ packed-at w (placed-bytes (r .n) (s .few) w (s .allowed)) (input-of l) literal-placed in
-      let low : b < 32 = choice-byte (r .n) (omega (arith, s .few)) b (placed-choice (r .n) (s .few) w (s .allowed) (input-of l) literal-placed) in
+      let low : b < 32 = choice-byte (r .n) (omega (arith, s .few)) b (placed-choice (r .n) (omega (arith, s .few)) w (s .allowed) (input-of l) literal-placed) in
       let short : l < 32 = choice-byte (r .depth) (omega (arith, depth-few)) l literal in
       ap (λ (m : ℕ). bitXor m (bitAnd l 16)) found ∙ turned l b short low
     where
@@ -174,7 +161,7 @@ module _ (r : Wiring) (s : Formed r) (i : ℕ) (h : i < r .depth) where
   input-literal = plain-choice (r .depth) (omega (arith, stands-depth r (r .n) (prefix r) s, placed-within (r .n) (s .few) (prefix r) (s .allowed), s .few)) i h .0
 
   pub input-lands : input-of (getD (prefix r) i 0) < 8
-  input-lands = placed-input (r .n) (s .few) (prefix r) (s .allowed) i input-placed
+  input-lands = lt-of-lt-of-le (placed-input (r .n) (omega (arith, s .few)) (prefix r) (s .allowed) i input-placed) (s .few)
 
   -- what is located there names an input below 8
   pub located-room : (to : ℕ) → to ≡ located (prefix r) i → bitAnd to 15 < 8
@@ -196,16 +183,13 @@ past true d e i q =
 
 -- the unused inputs but that of one choice more
 but : (t : Bool) (w : List ℕ) (b j : ℕ) → t && not (uses w j) && not (eqb j (input-of b)) ≡ t && not (uses (w adding b) j)
-unfolding some-in
 but t w b j =
-    turn t (uses w j) (eqb j (input-of b))
-    ∙ ap (λ (u : Bool). t && not u) (ap (λ (e : Bool). uses w j || (e || false)) (eqb-comm j (input-of b)) ∙ sym (uses-append w (b ∷ []) j))
+    turn t (uses w j) (eqb j (input-of b)) ∙ ap (λ (u : Bool). t && not u) (ap (λ (e : Bool). uses w j || e) (eqb-comm j (input-of b)) ∙ sym (uses-adding w b j))
   where
-    turn : (t x y : Bool) → t && not x && not y ≡ t && not (x || (y || false))
+    turn : (t x y : Bool) → t && not x && not y ≡ t && not (x || y)
     turn false x y = refl
     turn true true y = refl
-    turn true false true = refl
-    turn true false false = refl
+    turn true false y = refl
 
 module _ (r : Wiring) (b : ℕ) (s : Formed r) (choice : is-choice (r .n) b ≡ true) (free : free-choice (prefix r) b ≡ true) where
   abbrev w : List ℕ

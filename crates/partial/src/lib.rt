@@ -2,17 +2,16 @@
 // literals go. With it, the test of one pair and the first dead pair of two records.
 ghost use mathlib.Core.Path.{_≡_};
 ghost use mathlib.Core.Bool.{true, false, cond, _&&_};
-ghost use mathlib.Core.List.{[], map};
-ghost use Prim.Native.Nat.{ℕ, _≤_, _<_, _^_};
+ghost use Prim.Native.Nat.{_≤_, _<_, _^_};
 ghost use lib.Dec.{ltb};
 ghost use lib.ListN.{length};
 ghost use Rattle.bits.specs.Bits.{has};
 ghost use Rattle.records.specs.Records.{record-end};
-ghost use Rattle.rules.specs.Lists.{upto, first};
-ghost use Rattle.rules.specs.Rules.{_adding_};
-ghost use Rattle.wirings.specs.Wirings.{input-of, inverted, is-choice, free-choice};
-ghost use Rattle.wirings.specs.Pairs.{separates, dead, cubes-in, side, against, first-dead};
+ghost use Rattle.wirings.specs.Wirings.{input-of, inverted, choice-at, is-choice, free-choice};
+ghost use Rattle.wirings.specs.Pairs.{separates, dead, side, against, first-dead};
 ghost use Rattle.partial.specs.Partial.{prefix, Stands, Formed, located, carried, opposes, clears, found, row, rows};
+ghost use mathlib.Core.List.{[]};
+ghost use Rattle.rules.specs.Rules.{_adding_};
 
 // A partial wiring of n inputs: the inputs of f below `depth` have their choices, byte i of `choices` for input i. Two masks
 // say what remains: the inputs of f that are unplaced, and the inputs of g that are free.
@@ -38,6 +37,13 @@ pub struct Found {
     pub s: u8,
     pub u: usize,
     pub v: usize,
+}
+
+// The choice at place c of the order: by j upward, plain before inverted.
+pub fn choice(c: u8) -> u8
+    ensures { λ r. ⌜ r ≡ choice-at c ⌝ }
+{
+    (c >> 1) + ((c & 1) << 4)
 }
 
 // List s of a record: 0 its on list, 1 its off list.

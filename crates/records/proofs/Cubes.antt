@@ -9,11 +9,9 @@ use lib.Dec.{eqb}
 use lib.ListN.{length, getD, take, drop}
 use lib.Seq.{take-add, drop-at, drop-drop, getD-drop, length-take-le}
 use Rattle.bits.specs.Bits.{any}
-use Rattle.bits.proofs.Tests.{and-comm}
-use Rattle.bits.proofs.Below.{any-same}
-use Rattle.cubes.specs.Cubes.{cube-holds, cubes-share, some-cube, some-holds}
+use Rattle.cubes.specs.Cubes.{cubes-share, some-cube, some-holds}
 use Rattle.cubes.proofs.Masks.{share-masks}
-use Rattle.cubes.proofs.Lists.{Each, each-all, each-map, each-bytes, each-take, each-drop, some-same, some-any, some-and}
+use Rattle.cubes.proofs.Lists.{Each, each-map, each-bytes, each-take, each-drop, some-same, lists-meet}
 use Rattle.answers.specs.declared.Fault.{Fault}
 use Rattle.answers.specs.Answers.{fault, sound}
 use Rattle.records.specs.Records.{inputs, on-count, off-count, cubes-at, off-at, on-list, off-list, cube-code, clash-code, first-fault, cubes-fault, clash-fault}
@@ -113,10 +111,4 @@ module _ (s : List ℕ) (framed : Framed s) where
 
 pub clash-means : (n : ℕ) (on off : List ℕ) → some-cube (λ P N. some-cube (cubes-share n P N) off) on ≡ any (2 ^ n) (λ x. some-holds on x && some-holds off x)
 unfolding cubes-share
-clash-means n on off =
-    some-same _ _ on (each-all _ inner on)
-    ∙ some-any (2 ^ n) (λ P N x. cube-holds P N x && some-holds off x) on
-    ∙ any-same _ _ (2 ^ n) (λ x h. some-same _ _ on (each-all _ (λ P N. and-comm (cube-holds P N x) (some-holds off x)) on) ∙ some-and (some-holds off x) _ on ∙ and-comm (some-holds off x) (some-holds on x))
-  where
-    inner : (P N : ℕ) → some-cube (λ P′ N′. any (2 ^ n) (λ x. cube-holds P N x && cube-holds P′ N′ x)) off ≡ any (2 ^ n) (λ x. cube-holds P N x && some-holds off x)
-    inner P N = some-any (2 ^ n) (λ P′ N′ x. cube-holds P N x && cube-holds P′ N′ x) off ∙ any-same _ _ (2 ^ n) (λ x h. some-and (cube-holds P N x) (λ P′ N′. cube-holds P′ N′ x) off)
+clash-means n on off = lists-meet (2 ^ n) (λ x. x) on off

@@ -9,7 +9,7 @@ use Rattle.bits.specs.Bits.{has, any}
 use Rattle.cubes.specs.Cubes.{cube-names, cubes-share, some-cube, patterns-held, inputs-used}
 use Rattle.answers.specs.declared.Answer.{Answer}
 use Rattle.answers.specs.declared.Fault.{Fault}
-use Rattle.answers.specs.Answers.{accepted, refused, fault, sound, is-sound, _then_, byte-fault, length-fault}
+use Rattle.answers.specs.Answers.{accepted, refused, fault, sound, is-sound, byte-fault, length-fault, _then_}
 use Rattle.records.specs.declared.Reading.{Reading}
 use Rattle.records.specs.declared.Figures.{Figures}
 

@@ -9,7 +9,7 @@ use lib.Dec.{eqb}
 use lib.ListN.{length, length-append}
 use Rattle.bits.proofs.Tests.{both, both-left, both-right}
 use Rattle.rules.specs.Lists.{some-in}
-use Rattle.rules.specs.Rules.{Rule, _adding_, next, completions, follows}
+use Rattle.rules.specs.Rules.{Rule, next, completions, follows, _adding_}
 use Rattle.rules.proofs.Lists.{In, in-flat, flat-in, in-filter, filter-in, some-at, some-if}
 
 -- a choice more and then r is w followed by both

@@ -10,9 +10,9 @@ use native.Mathlib.Omega.{arith}
 use lib.ListN.{length, length-append}
 use Rattle.bits.proofs.Tests.{both, decide}
 use Rattle.rules.specs.Lists.{filter, first}
-use Rattle.rules.specs.Rules.{Rule, _adding_, next, completions, follows}
+use Rattle.rules.specs.Rules.{Rule, next, completions, follows, _adding_}
 use Rattle.rules.proofs.Lists.{In, flat-same, filter-none, filter-flat, first-of, first-none, first-flat, first-filter}
-use Rattle.rules.proofs.Completions.{next-may, follows-append}
+use Rattle.rules.proofs.Completions.{next-may, follows-append, completion-extends, completions-length}
 
 -- ---- the walk, under a rule, past what is dead
 
@@ -53,6 +53,15 @@ module _ (R : Rule) (n : ℕ) where
     total = omega (arith, length-append w (b ∷ []));
     allowed = follows-append R [] w (b ∷ []) ∙ both (r .allowed) (both (next-may R w b i) refl);
   }
+
+  -- a completion of choices that the rule allows is a whole way that it allows
+  pub whole-reached : (k : ℕ) (w : List ℕ) → Reached k w → (v : List ℕ) → In v (completions R k w) → Reached 0 v
+  whole-reached k w r v i =
+      let c = completion-extends R k w v i in
+      record {
+        total = omega (arith, r .total, completions-length R k w v i);
+        allowed = ap (follows R []) (c .1) ∙ follows-append R [] w (c .0) ∙ both (r .allowed) (c .3);
+      }
 
   module _ (passes dead : List ℕ → Bool) where
     -- what a test of death needs: from dead choices nothing passes, and a whole way that does not pass is dead

@@ -2,16 +2,16 @@
 -- elements of its parts, and a test of it is the test of its parts.
 use Prim.Native.Nat.{ℕ, zero, suc, _+_, _*_, _≤_, _<_}
 use mathlib.Core.Path.{_≡_, refl, sym, ap, ap₂, _∙_, subst}
-use mathlib.Core.Bool.{Bool, true, false, cond, not, _&&_, _||_, false≢true}
+use mathlib.Core.Bool.{Bool, true, false, cond, not, _&&_, _||_, false≢true, or-assoc}
 use mathlib.Core.List.{List, [], _∷_, _++_, map, flatMap}
 use mathlib.Core.Option.{Option, none, some, Option·map, Option·some-ne-none}
 use mathlib.Core.Logic.{_⊎_, inl, inr, ⊎-elim}
-use native.Mathlib.Nat.{zero-mul, suc-mul, add-comm}
+use native.Mathlib.Nat.{zero-mul, suc-mul, add-comm, le-of-suc-le-suc, not-suc-le-zero}
 use native.Mathlib.Omega.{arith}
 use borrow.Author.Tests.{eqb-true, eq-eqb}
 use lib.Dec.{eqb}
-use lib.ListN.{length, length-append}
-use Rattle.bits.proofs.Tests.{both, both-left, both-right, either, or-left, or-right, or-assoc, below-or-not, not-passed}
+use lib.ListN.{length, length-append, getD}
+use Rattle.bits.proofs.Tests.{both, both-left, both-right, either, or-left, or-right, below-or-not, not-passed}
 use Rattle.rules.specs.Lists.{run, filter, first, some-in, each-in, count-in, same}
 
 -- ---- elements
@@ -256,6 +256,23 @@ module _ {A B : Type 0} (t : B → Bool) where
   first-map f (x ∷ l) =
       elim (t (f x)) as (λ b. cond b (some (f x)) (first t (map f l)) ≡ Option·map f (cond b (some x) (first (λ x. t (f x)) l))) [ true ↦ refl | false ↦ first-map f l ]
 
+module _ {A : Type 0} (t : A → Bool) (x : A) where
+  -- x stands in the list after elements none of which passes
+  abbrev pub AfterNone : List A → Type 0
+  AfterNone l = (l₁ : List A) × (l₂ : List A) × (l ≡ l₁ ++ (x ∷ l₂)) × ((y : A) → In y l₁ → t y ≡ false)
+
+  -- so does the first that passes
+  pub first-after : (l : List A) → first t l ≡ some x → AfterNone l
+  unfolding In first
+  first-after [] e = absurd (Option·some-ne-none x (sym e))
+  first-after (y ∷ l) e = go (t y) refl e (λ d. first-after l d)
+    where
+      go : (b : Bool) → t y ≡ b → cond b (some y) (first t l) ≡ some x → (first t l ≡ some x → AfterNone l) → AfterNone (y ∷ l)
+      go true p d later = ([], l, ap (λ (z : A). z ∷ l) (cc), λ z i. absurd i)
+      go false p d later =
+          let c = later d in
+          (y ∷ c .0, c .1, ap (λ (m : List A). y ∷ m) (c .2), λ z i. ⊎-elim (λ (r : z ≡ y). ap t r ∙ p) (λ (j : In z (c .0)). c .3 z j) i)
+
 -- ---- a run of numbers
 
 -- a run has the numbers from the first on, as many as asked
@@ -274,7 +291,16 @@ unfolding run
 length-run a zero = refl
 length-run a (suc n) = ap suc (length-run (suc a) n)
 
--- ---- lists of numbers: the test says that they are equal
+-- ---- lists of numbers
+
+-- what stands at an index is an element
+pub getD-in : (w : List ℕ) (i : ℕ) → i < length w → In (getD w i 0) w
+unfolding In
+getD-in [] i h = absurd (not-suc-le-zero h)
+getD-in (b ∷ w) zero h = inl refl
+getD-in (b ∷ w) (suc i) h = inr (getD-in w i (le-of-suc-le-suc h))
+
+-- the test of two lists says that they are equal
 
 pub same-is : (w v : List ℕ) → same w v ≡ true → w ≡ v
 unfolding same

@@ -2,16 +2,16 @@
 -- order `before`; nothing is before itself, so each stands once.
 use Prim.Native.Nat.{ℕ, zero, suc, _+_}
 use mathlib.Core.Path.{_≡_, refl, sym, ap, ap₂, _∙_, subst}
-use mathlib.Core.Bool.{Bool, true, false, cond, _||_, _&&_, false≢true}
+use mathlib.Core.Bool.{Bool, true, false, cond, _||_, _&&_, false≢true, and-false}
 use mathlib.Core.List.{List, [], _∷_, _++_, map, flatMap}
 use mathlib.Core.Logic.{inl, inr, ⊎-elim}
 use native.Mathlib.Nat.{le-refl, zero-add}
 use borrow.Author.Tests.{eq-eqb, le-ltb}
 use lib.Dec.{ltb, eqb}
 use lib.ListN.{length}
-use Rattle.bits.proofs.Tests.{both, or-left, or-right, and-false, not-passed}
+use Rattle.bits.proofs.Tests.{both, or-left, or-right, not-passed}
 use Rattle.rules.specs.Lists.{filter, some-in, count-in, same, times}
-use Rattle.rules.specs.Rules.{Rule, _adding_, next, completions, follows, before}
+use Rattle.rules.specs.Rules.{Rule, next, completions, follows, before, _adding_}
 use Rattle.rules.proofs.Lists.{In, in-either, map-in, flat-in, filter-in, some-if, count-none, same-is, same-self}
 use Rattle.rules.proofs.Completions.{adding-append, completion-extends, completion-in}
 

@@ -1,24 +1,25 @@
 -- The choices that 01's rule leaves. The idea: a prefix that the rule allows is a list of choice bytes with no input of g used
 -- twice; so with k inputs still to be placed, k inputs of g are free, and 2 * k choices. Counting asks for at most 16 inputs:
 -- only then the bytes j and j + 16 are told apart.
-use Prim.Native.Nat.{ℕ, zero, suc, _+_, _*_, _≤_, _<_}
+use Prim.Native.Nat.{ℕ, zero, suc, _+_, _*_, _%_, _≤_, _<_}
 use mathlib.Core.Path.{_≡_, refl, sym, ap, ap₂, _∙_}
-use mathlib.Core.Bool.{Bool, true, false, cond, not, _&&_, _||_, and-true, and-assoc}
+use mathlib.Core.Bool.{Bool, true, false, cond, not, _&&_, _||_, and-true, and-assoc, or-false, and-false}
 use mathlib.Core.List.{List, [], _∷_, _++_, append-nil}
 use mathlib.Core.Logic.{_⊎_, inl, inr, ⊎-elim}
-use native.Mathlib.Nat.{le-refl, le-step, add-zero, zero-add, not-suc-le-zero, eq-or-lt-of-le}
+use native.Mathlib.Nat.{add-zero, zero-add, eq-or-lt-of-le}
+use native.Mathlib.Numerals.{add-one}
 use native.Mathlib.Omega.{arith}
 use borrow.Author.Tests.{ltb-true, leb-true, lt-ltb, le-leb, lt-leb, eq-eqb, ne-eqb, eqb-true, not-true}
 use lib.Dec.{leb, ltb, eqb}
-use lib.ListN.{length}
+use lib.ListN.{length, drop, getD}
 use Rattle.bits.specs.Bits.{count}
-use Rattle.bits.proofs.Tests.{both, both-left, both-right, either, or-left, or-right, or-false, and-false, same-test, eqb-comm}
-use Rattle.bits.proofs.Below.{below-suc, count-low, count-same}
+use Rattle.bits.proofs.Tests.{both, both-left, both-right, either, or-left, or-right, same-test, eqb-comm, below-or-not}
+use Rattle.bits.proofs.Below.{count-low, count-same, count-all, count-at, count-less}
 use Rattle.rules.specs.Lists.{filter, some-in, each-in}
-use Rattle.rules.specs.Rules.{_adding_, next, follows}
-use Rattle.rules.proofs.Lists.{In, some-at, some-if, some-append}
+use Rattle.rules.specs.Rules.{next, follows, _adding_}
+use Rattle.rules.proofs.Lists.{In, some-at, some-if, some-append, each-at, getD-in}
 use Rattle.rules.proofs.Completions.{adding-append, follows-append}
-use Rattle.wirings.specs.Wirings.{input-of, inverted, choices-from, uses, free-choice, straight, is-choice, apart}
+use Rattle.wirings.specs.Wirings.{input-of, inverted, choices-from, choice-at, uses, free-choice, straight, is-choice, apart}
 
 -- ---- choice bytes
 
@@ -79,6 +80,22 @@ listed n b =
     (λ e. let x = some-at (eqb b) (choices-from 0 n) e in ap (is-choice n) (eqb-true b (x .0) (x .2)) ∙ in-choice n (x .0) (x .1))
     (λ e. some-if (eqb b) b (choices-from 0 n) (choice-in n b e) (eq-eqb b b refl))
 
+-- one by one: the choice at place c, and those after it
+from-at : (j k c : ℕ) → c < 2 * k → drop c (choices-from j k) ≡ choice-at (2 * j + c) ∷ drop (suc c) (choices-from j k)
+unfolding choices-from
+from-at j zero c h = absurd (omega (arith, h))
+from-at j (suc k) zero h = ap (λ (b : ℕ). b ∷ (j + 16) ∷ choices-from (suc j) k) (omega arith)
+from-at j (suc k) (suc zero) h = ap (λ (b : ℕ). b ∷ choices-from (suc j) k) (omega arith)
+from-at j (suc k) (suc (suc c)) h =
+    from-at (suc j) k c (omega arith) ∙ ap (λ (m : ℕ). choice-at m ∷ drop (suc c) (choices-from (suc j) k)) (omega arith)
+
+pub choices-at : (n c : ℕ) → c < 2 * n → drop c (choices-from 0 n) ≡ choice-at c ∷ drop (c + 1) (choices-from 0 n)
+choices-at n c h = rw add-one (from-at 0 n c h ∙ ap (λ (m : ℕ). choice-at m ∷ drop (suc c) (choices-from 0 n)) (omega arith))
+
+-- and is a choice of n inputs
+pub choice-at-is : (n : ℕ) → n ≤ 16 → (c : ℕ) → c < 2 * n → is-choice n (choice-at c) ≡ true
+choice-at-is n small c h = ⊎-elim (λ (e : c % 2 < 1). choice-test n (choice-at c) (inl (omega arith))) (λ (e : 1 ≤ c % 2). choice-test n (choice-at c) (inr (omega arith))) (below-or-not (c % 2) 1)
+
 -- ---- used inputs
 
 pub uses-append : (w v : List ℕ) (j : ℕ) → uses (w ++ v) j ≡ uses w j || uses v j
@@ -132,30 +149,6 @@ place-next n w b allowed choice new = follows-append (straight n) [] w (b ∷ []
 
 -- ---- how many inputs are free
 
-count-all : (n : ℕ) → count n (λ j. true) ≡ n
-unfolding count
-count-all zero = refl
-count-all (suc n) = omega (arith, count-all n)
-
--- where some number is counted, one passes
-count-at : (p : ℕ → Bool) (n : ℕ) → 0 < count n p → (j : ℕ) × (j < n) × (p j ≡ true)
-unfolding count
-count-at p zero h = absurd (not-suc-le-zero h)
-count-at p (suc n) h = go (p n) refl h (λ h. count-at p n h)
-  where
-    go : (t : Bool) → p n ≡ t → 0 < count n p + cond t 1 0 → (0 < count n p → (j : ℕ) × (j < n) × (p j ≡ true)) → (j : ℕ) × (j < suc n) × (p j ≡ true)
-    go true e h f = (n, le-refl (suc n), e)
-    go false e h f = let w = f (omega arith) in (w .0, le-step (w .1), w .2)
-
--- a test that fails at i alone, where another passes, counts one less
-count-less : (p q : ℕ → Bool) (n i : ℕ) → i < n → p i ≡ true → q i ≡ false → ((j : ℕ) → (i ≡ j → ⊥) → q j ≡ p j) → suc (count n q) ≡ count n p
-unfolding count
-count-less p q zero i h e d f = absurd (not-suc-le-zero h)
-count-less p q (suc n) i h e d f =
-    ⊎-elim (λ (s : i ≡ n). let c = count-same q p n (λ j l. f j (λ r. omega arith)) in simp (ap q (sym s) ∙ d, ap p (sym s) ∙ e) (omega arith))
-    (λ (l : i < n). simp (f n (λ r. omega arith)) (omega (arith, count-less p q n i l e d f)))
-    (below-suc h)
-
 -- each choice made uses one input more
 apart-count : (n : ℕ) → n ≤ 16 → (w : List ℕ) → each-in (is-choice n) w ≡ true → apart w ≡ true → count n (λ j. not (uses w j)) + length w ≡ n
 unfolding each-in apart some-in
@@ -203,3 +196,14 @@ module _ (n : ℕ) (small : n ≤ 16) (w : List ℕ) (allowed : follows (straigh
 
   pub free-input : length w < n → (j : ℕ) × (j < n) × (uses w j ≡ false)
   free-input more = let x = count-at (λ j. not (uses w j)) n (omega (arith, free-count)) in (x .0, x .1, not-true (uses w (x .0)) (x .2))
+
+  -- each choice made is a choice byte of n inputs, and names an input of g
+  pub placed-choice : (i : ℕ) → i < length w → is-choice n (getD w i 0) ≡ true
+  placed-choice i h = each-at (is-choice n) (getD w i 0) w (both-left (each-in (is-choice n) w) (apart w) (sym (follows-is n w) ∙ allowed)) (getD-in w i h)
+
+  pub placed-input : (i : ℕ) → i < length w → input-of (getD w i 0) < n
+  placed-input i h = choice-input n small (getD w i 0) (placed-choice i h)
+
+  -- no two of them share one
+  pub placed-apart : apart w ≡ true
+  placed-apart = both-right (each-in (is-choice n) w) (apart w) (sym (follows-is n w) ∙ allowed)

@@ -11,12 +11,12 @@ use borrow.Author.Tests.{leb-true, le-leb, eqb-false, ne-eqb, not-true}
 use lib.Dec.{leb, eqb}
 use lib.ListN.{length, getD, length-append, List·getD-append}
 use lib.Seq.{getD-at, getD-append-add}
-use Rattle.bits.specs.Bits.{has, any}
-use Rattle.bits.proofs.Tests.{both, both-left, both-right, either, or-left, or-right, same-test, below-or-not}
+use Rattle.bits.specs.Bits.{has}
+use Rattle.bits.proofs.Tests.{both, both-left, both-right, either, or-left, or-right, same-test, below-or-not, neither}
 use Rattle.bits.proofs.Below.{any-at, any-if, any-none}
 use Rattle.cubes.specs.Cubes.{cube-names}
 use Rattle.rules.specs.Lists.{some-in}
-use Rattle.rules.specs.Rules.{_adding_, completions, follows}
+use Rattle.rules.specs.Rules.{completions, follows, _adding_}
 use Rattle.rules.proofs.Lists.{In, in-flat, in-filter, some-at, some-if}
 use Rattle.rules.proofs.Completions.{adding-append, completion-extends, completions-length}
 use Rattle.wirings.specs.Wirings.{input-of, inverted, choices-from, uses, free-choice, straight, is-choice}
@@ -24,10 +24,6 @@ use Rattle.wirings.specs.Pairs.{asks-one, asks-zero, opposed, separates,
 use Rattle.wirings.proofs.Choices.{choice-input, plain-choice, inverted-choice, choice-in, listed, uses-adding, place-next, free-input}
 
 -- ---- an unplaced input can still be given any free choice
-
-neither : (a b : Bool) → a || b ≡ false → (a ≡ false) × (b ≡ false)
-neither true b e = absurd (false≢true (sym e))
-neither false b e = (refl, e)
 
 module _ (n : ℕ) where
   -- b is a choice of an input that w leaves free

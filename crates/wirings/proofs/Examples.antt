@@ -1,16 +1,15 @@
-use Prim.Native.Nat.{ℕ, zero, suc, _+_}
+use Prim.Native.Nat.{ℕ}
 use mathlib.Core.Path.{_≡_, refl}
-use mathlib.Core.Bool.{Bool, true, false, not, _&&_}
+use mathlib.Core.Bool.{Bool, true, not, _&&_}
 use mathlib.Core.List.{List, [], _∷_, flatMap}
-use mathlib.Core.Option.{Option, some, none}
+use mathlib.Core.Option.{some}
 use lib.ListN.{length}
 use Rattle.bits.specs.Bits.{bit, number, any, every}
 use Rattle.cubes.specs.Cubes.{some-cube, cube-holds}
-use Rattle.rules.specs.Lists.{run, filter, first, some-in, each-in}
+use Rattle.rules.specs.Lists.{filter, first, some-in}
 use Rattle.rules.specs.Rules.{completions}
 use Rattle.records.specs.Records.{on-list, off-list}
-use Rattle.wirings.specs.Wirings.{choices-from, straight, wirings, served, read-at, disagree-at, agrees, agreeing, inverted, choices, phase}
-use Rattle.wirings.specs.Pairs.{separates, dead, side, against, pairs, of-pair, first-dead}
+use Rattle.wirings.specs.Wirings.{choices-from, wirings, served, read-at, disagree-at, agrees, agreeing, inverted, choices}
 
 f₂ : List ℕ
 f₂ = 0x46 ∷ 0x4E ∷ 3 ∷ 2 ∷ 1 ∷ 0 ∷ 3 ∷ 4 ∷ 1 ∷ 5 ∷ 0 ∷ []

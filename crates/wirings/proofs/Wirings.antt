@@ -12,7 +12,7 @@ use lib.Dec.{ltb, eqb}
 use lib.ListN.{length, length-map}
 use Rattle.bits.proofs.Tests.{both, both-left, both-right, or-right, same-test}
 use Rattle.rules.specs.Lists.{run, some-in, each-in, same, times}
-use Rattle.rules.specs.Rules.{_adding_, next, completions, follows, before}
+use Rattle.rules.specs.Rules.{next, completions, follows, before, _adding_}
 use Rattle.rules.proofs.Lists.{In, in-map, map-in, map-same, in-flat, flat-in, length-flat, some-at, some-if, in-run, run-in, same-is, same-self}
 use Rattle.rules.proofs.Completions.{completion-extends, completion-in}
 use Rattle.rules.proofs.Order.{Rising, rising-map, rising-flat, rising-once, before-at, completions-rise}

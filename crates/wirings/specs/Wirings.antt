@@ -1,7 +1,7 @@
 -- Wirings in the words of document 01: choice bytes, every wiring in order, reading f through a wiring, and agreement.
 -- A function is its record, the list of its bytes; a wiring is written as in a match claim: q, then a choice byte for each
 -- input of f.
-use Prim.Native.Nat.{ℕ, zero, suc, _+_, _-_, _*_, _%_, _^_}
+use Prim.Native.Nat.{ℕ, zero, suc, _+_, _-_, _*_, _/_, _%_, _^_}
 use mathlib.Core.Bool.{Bool, true, false, cond, not, _&&_, _||_}
 use mathlib.Core.List.{List, [], _∷_, map, flatMap}
 use lib.Dec.{leb, ltb, eqb}
@@ -24,6 +24,10 @@ inverted b = leb 16 b
 unfoldable pub choices-from : ℕ → ℕ → List ℕ
 choices-from j zero = []
 choices-from j (suc k) = j ∷ (j + 16) ∷ choices-from (suc j) k
+
+-- the choice at place c of that order
+abbrev pub choice-at : ℕ → ℕ
+choice-at c = c / 2 + 16 * (c % 2)
 
 -- some choice of w uses input j of g
 abbrev pub uses : List ℕ → ℕ → Bool

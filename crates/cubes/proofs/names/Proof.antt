@@ -1,14 +1,13 @@
 -- The walk collects: an input is named so far if it is in the mask, or by a cube that remains.
 use Prim.Native.Nat.{ℕ, _-_, _≤_, _<_, _+_}
 use mathlib.Core.Path.{_≡_, _∙_, sym, ap}
-use mathlib.Core.Bool.{Bool, _||_}
+use mathlib.Core.Bool.{Bool, _||_, or-assoc, or-false}
 use mathlib.Core.List.{List}
 use native.Mathlib.Omega.{arith}
 use lib.Bits.{bitOr}
 use lib.ListN.{length, drop, getD}
 use Rattle.bits.specs.Bits.{has}
 use Rattle.bits.proofs.Bit.{has-or, has-zero}
-use Rattle.bits.proofs.Tests.{or-assoc, or-false}
 use Rattle.cubes.specs.Cubes.{some-cube, cube-names}
 use Rattle.cubes.proofs.Lists.{some-step, some-end}
 use Rattle.cubes.proofs.names.Statement.{statement}

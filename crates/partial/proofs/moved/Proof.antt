@@ -1,13 +1,13 @@
 -- Bit i, shifted down to 0 and up to j.
 use Prim.Native.Nat.{ℕ, zero, suc, _*_, _/_, _%_, _^_, _≤_, _<_}
-use mathlib.Core.Path.{_≡_, refl, ap, _∙_}
+use mathlib.Core.Path.{_≡_, ap, _∙_}
 use mathlib.Core.Bool.{cond}
 use borrow.Author.Needs.{needs}
 use native.Mathlib.Nat.{zero-mul, one-mul, mod-eq-of-lt, not-suc-le-zero, le-of-suc-le-suc}
-use lib.Bits.{bitAnd, and-mask}
+use lib.Bits.{and-mask}
 use lib.Dec.{eqb}
 use lib.Pow.{pow-lt}
-use Rattle.bits.specs.Bits.{bit, has}
+use Rattle.bits.specs.Bits.{bit}
 use Rattle.bits.proofs.Bit.{bit-le}
 use Rattle.partial.proofs.moved.Statement.{statement}
 use Rattle.partial.proofs.moved.Tie as tie

@@ -1,5 +1,4 @@
 -- The on list for 0, the off list for 1.
-use mathlib.Core.Path.{sym, _∙_}
 use borrow.Author.Needs.{needs}
 use borrow.Author.Tests.{eq-eqb, ne-eqb}
 use Rattle.wirings.specs.Pairs.{side}

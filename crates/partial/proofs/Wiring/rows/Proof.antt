@@ -1,14 +1,13 @@
 -- The loop over the cubes of f's list: each is carried over once, and what remains decides.
 use Prim.Native.Nat.{_-_}
 use mathlib.Core.Path.{_≡_, refl, sym, ap, _∙_}
-use mathlib.Core.Bool.{Bool}
 use borrow.Author.Needs.{needs}
 use native.Mathlib.Omega.{arith}
 use Rattle.rules.proofs.Seek.{Seek, seek-starts}
 use Rattle.wirings.specs.Pairs.{cubes-in}
 use Rattle.partial.specs.declared.Carried.{Carried}
 use Rattle.partial.specs.declared.Found.{Found}
-use Rattle.partial.specs.Partial.{prefix, Formed, found, row}
+use Rattle.partial.specs.Partial.{prefix, found, row}
 use Rattle.partial.proofs.Rows.{rows-at, rows-found, rows-goes, rows-ends}
 use Rattle.partial.proofs.Wiring.rows.Statement.{statement}
 use Rattle.partial.proofs.Wiring.rows.Tie as tie

@@ -1,0 +1,128 @@
+-- The test of death for accepted records. The idea: a wiring agrees exactly when it separates every pair, so from choices with a
+-- dead pair, which no completion separates, nothing agrees; and a whole wiring that does not agree has a pair that it does not
+-- separate, which is dead.
+use Prim.Native.Nat.{ℕ, _≤_, _<_}
+use mathlib.Core.Path.{_≡_, refl, sym, _∙_, subst}
+use mathlib.Core.Bool.{Bool, true, false, not, false≢true}
+use mathlib.Core.List.{List, [], _∷_, map}
+use mathlib.Core.Option.{none, some, Option·some-ne-none}
+use native.Mathlib.Nat.{add-zero}
+use native.Mathlib.Omega.{arith}
+use borrow.Author.Tests.{not-true, not-false}
+use Rattle.bits.proofs.Tests.{not-passed}
+use Rattle.rules.specs.Lists.{run, upto, some-in, each-in}
+use Rattle.rules.specs.Rules.{completions, follows}
+use Rattle.rules.proofs.Lists.{In, in-map, map-in, in-flat, flat-in, some-at, some-if, some-same, each-at, each-some, first-exists, first-found, in-run, run-in, AfterNone, first-after}
+use Rattle.rules.proofs.Cut.{Reached, Death, whole-reached}
+use Rattle.records.specs.Records.{inputs, record-fault}
+use Rattle.records.proofs.Frame.{record-sound}
+use Rattle.records.proofs.Cubes.{Bytes}
+use Rattle.wirings.specs.Wirings.{straight, wirings, phase, choices, agrees, agreeing}
+use Rattle.wirings.specs.Pairs.{separates, dead, cubes-in, side, against, Pair, pairs, of-pair, first-dead}
+use Rattle.wirings.proofs.Dead.{dead-exactly, dead-whole}
+use Rattle.wirings.proofs.Indexed.{of-cube, of-side}
+use Rattle.wirings.proofs.Agreement.{agrees-separates}
+
+-- ---- the pairs: s, u, v is one exactly when s is 0 or 1, f's list s has a cube u, and the list of g against it a cube v
+
+module _ (q : ℕ) (f g : List ℕ) where
+  abbrev pub IsPair : ℕ → ℕ → ℕ → Type 0
+  IsPair s u v = (s ≤ 1) × (u < cubes-in (side s f)) × (v < cubes-in (side (against q s) g))
+
+  pub in-pair : (s u v : ℕ) → IsPair s u v → In (s, u, v) (pairs q f g)
+  unfolding pairs run
+  in-pair s u v h =
+      let k = cubes-in (side s f) in
+      let m = cubes-in (side (against q s) g) in
+      in-flat (of-side q f g) s (s, u, v) (upto 2) (run-in s 0 2 (omega arith) (omega (arith, h .0)))
+      (in-flat (of-cube q f g s) u (s, u, v) (upto k) (run-in u 0 k (omega arith) (omega (arith, h .1)))
+      (in-map (λ v. (s, u, v)) v (upto m) (run-in v 0 m (omega arith) (omega (arith, h .2)))))
+
+  pub pair-in : (s u v : ℕ) → In (s, u, v) (pairs q f g) → IsPair s u v
+  unfolding pairs run
+  pair-in s u v i =
+      let x = flat-in (of-side q f g) (s, u, v) (upto 2) i in
+      let k = cubes-in (side (x .0) f) in
+      let m = cubes-in (side (against q (x .0)) g) in
+      let y = flat-in (of-cube q f g (x .0)) (s, u, v) (upto k) (x .2) in
+      let z = map-in (λ v. (x .0, y .0, v)) (s, u, v) (upto m) (y .2) in
+      subst (λ (p : Pair). IsPair (p .0) (p .1) (p .2)) (sym (z .2))
+      (omega (arith, in-run (x .0) 0 2 (x .1) .1), omega (arith, in-run (y .0) 0 k (y .1) .1), omega (arith, in-run (z .0) 0 m (z .1) .1))
+
+-- ---- dead pairs
+
+-- some pair is dead
+unfoldable pub some-dead : ℕ → ℕ → List ℕ → List ℕ → List ℕ → Bool
+some-dead n q f g w = some-in (of-pair q f g (dead n w)) (pairs q f g)
+
+module _ (n q : ℕ) (f g w : List ℕ) where
+  -- where some pair is dead, a first one is found
+  pub first-exists-dead : some-dead n q f g w ≡ true → (p : Pair) × (first-dead n q f g w ≡ some p)
+  unfolding some-dead first-dead
+  first-exists-dead e = first-exists (of-pair q f g (dead n w)) (pairs q f g) e
+
+  -- what is found is a dead pair
+  pub first-dead-is : (p : Pair) → first-dead n q f g w ≡ some p → In p (pairs q f g) × (of-pair q f g (dead n w) p ≡ true)
+  unfolding first-dead
+  first-dead-is p e = first-found (of-pair q f g (dead n w)) p (pairs q f g) e
+
+  -- no pair before it is dead: the pairs are some that are not, then it, then others
+  pub first-dead-after : (p : Pair) → first-dead n q f g w ≡ some p → AfterNone (of-pair q f g (dead n w)) p (pairs q f g)
+  unfolding first-dead
+  first-dead-after p e = first-after (of-pair q f g (dead n w)) p (pairs q f g) e
+
+  -- and where none is found, none is dead
+  pub first-dead-none : first-dead n q f g w ≡ none → some-dead n q f g w ≡ false
+  unfolding some-dead
+  first-dead-none e = not-passed (some-dead n q f g w) (λ d. let p = first-exists-dead d in Option·some-ne-none (p .0) (sym (p .1) ∙ e))
+
+-- ---- whole wirings
+
+-- each wiring of the list is one
+pub wiring-reached : (n : ℕ) (v : List ℕ) → In v (wirings n) → Reached (straight n) n 0 (choices v)
+unfolding wirings follows
+wiring-reached n v i =
+    let x = flat-in (λ q. map (λ (w : List ℕ). q ∷ w) (completions (straight n) n [])) v (0 ∷ 1 ∷ []) i in
+    let y = map-in (λ (w : List ℕ). x .0 ∷ w) v (completions (straight n) n []) (x .2) in
+    subst (λ (u : List ℕ). Reached (straight n) n 0 (choices u)) (sym (y .2))
+    (whole-reached (straight n) n n [] (record { total = add-zero n; allowed = refl }) (y .0) (y .1))
+
+-- ---- death, for accepted records
+
+module _ (q : ℕ) (f g : List ℕ) (bytes-f : Bytes f) (bytes-g : Bytes g) (fine-f : record-fault f .code ≡ 0) (fine-g : record-fault g .code ≡ 0) (equal : inputs f ≡ inputs g) where
+  -- a whole wiring agrees exactly when it separates every pair
+  as-separates : (w : List ℕ) → Reached (straight (inputs g)) (inputs g) 0 w → agrees q f g w ≡ each-in (of-pair q f g (separates w)) (pairs q f g)
+  as-separates w r = agrees-separates q f g bytes-f bytes-g fine-f fine-g equal w (r .allowed) (omega (arith, r .total))
+
+  -- of choices with a dead pair no completion agrees
+  pub never-agrees : (k : ℕ) (w : List ℕ) → Reached (straight (inputs g)) (inputs g) k w → some-dead (inputs g) q f g w ≡ true
+      → (v : List ℕ) → In v (completions (straight (inputs g)) k w) → agrees q f g v ≡ false
+  unfolding some-dead
+  never-agrees k w r d v i =
+      let n = inputs g in
+      let x = some-at (of-pair q f g (dead n w)) (pairs q f g) d in
+      let p = x .0 in
+      let whole = whole-reached (straight n) n k w r v i in
+      let gone : of-pair q f g (dead n w) p ≡ not (some-in (λ v. of-pair q f g (separates v) p) (completions (straight n) k w)) =
+      dead-exactly n (omega (arith, record-sound g fine-g .framed .header .n-byte .most)) k w (r .allowed) (r .total) _ _ _ _
+      in
+      not-passed (agrees q f g v) (λ e.
+      let parted = each-at (of-pair q f g (separates v)) p (pairs q f g) (sym (as-separates v whole) ∙ e) (x .1) in
+      false≢true (sym (not-true _ (sym gone ∙ x .2)) ∙ some-if (λ v. of-pair q f g (separates v) p) v (completions (straight n) k w) i parted))
+
+  -- a whole wiring that does not agree has a dead pair
+  pub whole-dead : (w : List ℕ) → Reached (straight (inputs g)) (inputs g) 0 w → agrees q f g w ≡ false → some-dead (inputs g) q f g w ≡ true
+  unfolding some-dead
+  whole-dead w r e =
+      some-same (of-pair q f g (dead (inputs g) w)) (λ p. not (of-pair q f g (separates w) p)) (pairs q f g) (λ p _. dead-whole (inputs g) w (omega (arith, r .total)) _ _ _ _)
+      ∙ not-false _ (sym (each-some (of-pair q f g (separates w)) (pairs q f g)) ∙ sym (as-separates w r) ∙ e)
+
+  -- so a walk that drops choices with a dead pair finds exactly the wirings that agree
+  pub death : Death (straight (inputs g)) (inputs g) (agrees q f g) (some-dead (inputs g) q f g)
+  death = record { dies = never-agrees; shows = whole-dead }
+
+-- a wiring of the list agrees exactly when it separates every pair
+pub agreeing-separates : (f g : List ℕ) → Bytes f → Bytes g → record-fault f .code ≡ 0 → record-fault g .code ≡ 0 → inputs f ≡ inputs g
+    → (v : List ℕ) → In v (wirings (inputs g)) → agreeing f g v ≡ each-in (of-pair (phase v) f g (separates (choices v))) (pairs (phase v) f g)
+agreeing-separates f g bytes-f bytes-g fine-f fine-g equal v i =
+    as-separates (phase v) f g bytes-f bytes-g fine-f fine-g equal (choices v) (wiring-reached (inputs g) v i)
