@@ -5,6 +5,8 @@ use mathlib.Core.List.{List}
 use Rattle.settled.specs.Settled.{Settled, SettledAs}
 use Rattle.partial.proofs.choice.Kinds as choice-kinds
 use Rattle.partial.proofs.choice.Reads as choice
+use Rattle.partial.proofs.is_choice.Kinds as is-choice-kinds
+use Rattle.partial.proofs.is_choice.Reads as is-choice
 use Rattle.partial.proofs.side.Kinds as side-kinds
 use Rattle.partial.proofs.side.Reads as side
 use Rattle.partial.proofs.against.Kinds as against-kinds
@@ -32,6 +34,9 @@ use Rattle.partial.proofs.Wiring.first_dead.Reads as first-dead
 
 pub choice-settled : Settled 0 choice-kinds.ps choice-kinds.r choice.Post
 choice-settled κs a r₁ r₂ s₁ s₂ p q = p ∙ sym q
+
+pub is-choice-settled : Settled 0 is-choice-kinds.ps is-choice-kinds.r is-choice.Post
+is-choice-settled κs a r₁ r₂ s₁ s₂ p q = p ∙ sym q
 
 -- of a part that is handed back, its bytes are seen
 pub side-settled : SettledAs 1 side-kinds.ps side-kinds.r (λ κs. List ℕ) (λ κs x s. x .now) side.Post

@@ -46,6 +46,19 @@ pub fn choice(c: u8) -> u8
     (c >> 1) + ((c & 1) << 4)
 }
 
+// Whether a byte is a choice of n inputs: 0 to n − 1 or 16 to 16 + n − 1.
+pub fn is_choice(n: u8, b: u8) -> bool
+    ensures { λ r. ⌜ r ≡ is-choice n b ⌝ }
+{
+    if b < n {
+        return true;
+    }
+    if b < 16 {
+        return false;
+    }
+    b - 16 < n
+}
+
 // List s of a record: 0 its on list, 1 its off list.
 pub fn side(f: &[u8], s: u8) -> &[u8]
     requires { ⌜ record-end (now f) ≡ length (now f) ⌝ }

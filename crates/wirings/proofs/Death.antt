@@ -1,21 +1,23 @@
 -- The test of death for accepted records. The idea: a wiring agrees exactly when it separates every pair, so from choices with a
 -- dead pair, which no completion separates, nothing agrees; and a whole wiring that does not agree has a pair that it does not
 -- separate, which is dead.
-use Prim.Native.Nat.{ℕ, _≤_, _<_}
+use Prim.Native.Nat.{ℕ, _*_, _≤_, _<_}
 use mathlib.Core.Path.{_≡_, refl, sym, _∙_, subst}
-use mathlib.Core.Bool.{Bool, true, false, not, false≢true}
+use mathlib.Core.Bool.{Bool, true, false, cond, not, false≢true}
 use mathlib.Core.List.{List, [], _∷_, map}
 use mathlib.Core.Option.{none, some, Option·some-ne-none}
-use native.Mathlib.Nat.{add-zero}
+use native.Mathlib.Nat.{add-zero, le-trans}
 use native.Mathlib.Omega.{arith}
 use borrow.Author.Tests.{not-true, not-false}
+use lib.Dec.{eqb}
+use lib.ListN.{drop, length-take}
 use Rattle.bits.proofs.Tests.{not-passed}
 use Rattle.rules.specs.Lists.{run, upto, some-in, each-in}
 use Rattle.rules.specs.Rules.{completions, follows}
 use Rattle.rules.proofs.Lists.{In, in-map, map-in, in-flat, flat-in, some-at, some-if, some-same, each-at, each-some, first-exists, first-found, in-run, run-in, AfterNone, first-after}
 use Rattle.rules.proofs.Cut.{Reached, Death, whole-reached}
-use Rattle.records.specs.Records.{inputs, record-fault}
-use Rattle.records.proofs.Frame.{record-sound}
+use Rattle.records.specs.Records.{inputs, on-count, off-count, cubes-at, off-at, on-list, off-list, record-fault}
+use Rattle.records.proofs.Frame.{Framed, record-sound}
 use Rattle.records.proofs.Cubes.{Bytes}
 use Rattle.wirings.specs.Wirings.{straight, wirings, phase, choices, agrees, agreeing}
 use Rattle.wirings.specs.Pairs.{separates, dead, cubes-in, side, against, Pair, pairs, of-pair, first-dead}
@@ -48,6 +50,21 @@ module _ (q : ℕ) (f g : List ℕ) where
       let z = map-in (λ v. (x .0, y .0, v)) (s, u, v) (upto m) (y .2) in
       subst (λ (p : Pair). IsPair (p .0) (p .1) (p .2)) (sym (z .2))
       (omega (arith, in-run (x .0) 0 2 (x .1) .1), omega (arith, in-run (y .0) 0 k (y .1) .1), omega (arith, in-run (z .0) 0 m (z .1) .1))
+
+-- of accepted records there are at most 64 of each
+few-cubes : (s : ℕ) (f : List ℕ) → Framed f → cubes-in (side s f) ≤ 64
+unfolding side on-list off-list
+few-cubes s f h =
+    let a = h .header .a-byte .most in
+    let b = h .header .b-byte .most in
+    let on = length-take (2 * on-count f) (drop (cubes-at f) f) in
+    let off = length-take (2 * off-count f) (drop (off-at f) f) in
+    elim (eqb s 0) as (λ t. cubes-in (cond t (on-list f) (off-list f)) ≤ 64) [ true ↦ omega (arith, on, a) | false ↦ omega (arith, off, b) ]
+
+pub few-pairs : (q : ℕ) (f g : List ℕ) → Framed f → Framed g → (p : Pair) → In p (pairs q f g) → (p .0 ≤ 1) × (p .1 < 64) × (p .2 < 64)
+few-pairs q f g framed-f framed-g p i =
+    let x = pair-in q f g (p .0) (p .1) (p .2) i in
+    (x .0, le-trans (x .1) (few-cubes (p .0) f framed-f), le-trans (x .2) (few-cubes (against q (p .0)) g framed-g))
 
 -- ---- dead pairs
 
