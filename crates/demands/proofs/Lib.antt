@@ -1,3 +1,4 @@
 pub mod Table
 pub mod Records
 pub mod Refused
+pub mod Wirings

@@ -121,16 +121,16 @@ module _ (r : Wiring) (l : ℕ) (s : Formed r) (literal : is-choice (r .depth) l
   pub literal-room : bitAnd l 15 < 8
   literal-room = omega (arith, and-mask l 4, choice-input (r .depth) (omega (arith, depth-few)) l literal, depth-few)
 
-  pub located-masks : bitXor (r .choices / 2 ^ (8 * bitAnd l 15) % 256) (bitAnd l 16) ≡ located (prefix r) l
+  pub located-masks : bitXor (bitAnd (r .choices / 2 ^ (8 * bitAnd l 15)) 255) (bitAnd l 16) ≡ located (prefix r) l
   unfolding located
   located-masks =
       let w = prefix r in
       let b = getD w (input-of l) 0 in
-      let found : r .choices / 2 ^ (8 * bitAnd l 15) % 256 ≡ b =
-      ap₂ (λ (c i : ℕ). c / 2 ^ (8 * i) % 256) (stands-choices r (r .n) w s) (and-mask l 4) ∙ packed-at w (placed-bytes (r .n) (s .few) w (s .allowed)) (input-of l) literal-placed in
+      let here : bitAnd (r .choices / 2 ^ (8 * bitAnd l 15)) 255 ≡ b =
+      and-mask (r .choices / 2 ^ (8 * bitAnd l 15)) 8 ∙ ap₂ (λ (c i : ℕ). c / 2 ^ (8 * i) % 256) (stands-choices r (r .n) w s) (and-mask l 4) ∙ packed-at w (placed-bytes (r .n) (s .few) w (s .allowed)) (input-of l) literal-placed in
       let low : b < 32 = choice-byte (r .n) (omega (arith, s .few)) b (placed-choice (r .n) (omega (arith, s .few)) w (s .allowed) (input-of l) literal-placed) in
       let short : l < 32 = choice-byte (r .depth) (omega (arith, depth-few)) l literal in
-      ap (λ (m : ℕ). bitXor m (bitAnd l 16)) found ∙ turned l b short low
+      ap (λ (m : ℕ). bitXor m (bitAnd l 16)) here ∙ turned l b short low
     where
       -- a negated literal turns the choice round
       turned : (l b : ℕ) → l < 32 → b < 32 → bitXor b (bitAnd l 16) ≡ cond (inverted l) (cond (inverted b) (b - 16) (b + 16)) b

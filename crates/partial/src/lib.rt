@@ -189,7 +189,7 @@ impl Wiring {
         requires { ⌜ is-choice (self .depth) literal ≡ true ⌝ }
         ensures { λ r. ⌜ r ≡ located (prefix self) literal ⌝ }
     {
-        let choice = ((self.choices >> (8 * (literal & 15))) % 256) as u8;
+        let choice = ((self.choices >> (8 * (literal & 15))) & 255) as u8;
         choice ^ (literal & 16)
     }
 
