@@ -1,17 +1,18 @@
 // The partial wiring, by value: one step gives it the next input's choice and returns it, and it answers where a cube's
 // literals go. With it, the test of one pair and the first dead pair of two records.
 ghost use mathlib.Core.Path.{_≡_};
-ghost use mathlib.Core.Bool.{true, false, cond, _&&_};
+ghost use mathlib.Core.Bool.{true, cond, _&&_};
+ghost use mathlib.Core.List.{[]};
+ghost use mathlib.Core.Option.{none};
 ghost use Prim.Native.Nat.{_≤_, _<_, _^_};
 ghost use lib.Dec.{ltb};
 ghost use lib.ListN.{length};
 ghost use Rattle.bits.specs.Bits.{has};
+ghost use Rattle.rules.specs.Rules.{_adding_};
 ghost use Rattle.records.specs.Records.{record-end};
 ghost use Rattle.wirings.specs.Wirings.{input-of, inverted, choice-at, is-choice, free-choice};
 ghost use Rattle.wirings.specs.Pairs.{separates, dead, side, against, first-dead};
 ghost use Rattle.partial.specs.Partial.{prefix, Stands, Formed, located, carried, opposes, clears, found, row, rows};
-ghost use mathlib.Core.List.{[]};
-ghost use Rattle.rules.specs.Rules.{_adding_};
 
 // A partial wiring of n inputs: the inputs of f below `depth` have their choices, byte i of `choices` for input i. Two masks
 // say what remains: the inputs of f that are unplaced, and the inputs of g that are free.
@@ -83,6 +84,18 @@ pub fn against(q: u8, s: u8) -> u8
     0
 }
 
+// No pair.
+fn nothing() -> Found
+    ensures { λ r. ⌜ r ≡ found none ⌝ }
+{
+    Found {
+        found: false,
+        s: 0,
+        u: 0,
+        v: 0,
+    }
+}
+
 // Of two masks the one that a choice takes: the first if it is plain, the second if inverted.
 fn taken(choice: u8, plain: u8, turned: u8) -> u8
     ensures { λ r. ⌜ r ≡ cond (inverted choice) turned plain ⌝ }
@@ -134,12 +147,7 @@ impl Carried {
             }
             v += 1;
         }
-        Found {
-            found: false,
-            s: 0,
-            u: 0,
-            v: 0,
-        }
+        nothing()
     }
 }
 
@@ -251,12 +259,7 @@ impl Wiring {
             }
             u += 1;
         }
-        Found {
-            found: false,
-            s: 0,
-            u: 0,
-            v: 0,
-        }
+        nothing()
     }
 
     // The first dead pair of f and g under q, in order of s, u, v.

@@ -29,8 +29,7 @@ loop-again c =
     row-goes (a .self) (a .list .now) (a .s) (a .u) _ (test .before .loop .inv) (test .loop-test .taken) (sym (c .before .clears .ensures) ∙ c .if1 .left)
 
 returns-2 : tie.Need-returns-2 Inv-loop μ-loop
-unfolding found
-returns-2 c = sym (ap found (row-ends _ _ _ _ _ (c .before .loop .inv) (c .loop-test .left)))
+returns-2 c = c .nothing .ensures ∙ sym (ap found (row-ends _ _ _ _ _ (c .before .before .loop .inv) (c .before .loop-test .left)))
 
 pub row-spec : {M : Type 1} → statement M
 row-spec =
@@ -49,4 +48,5 @@ row-spec =
     (λ c. omega arith)
     (λ c. omega arith)
     loop-again
+    (λ c κs. search needs)
     returns-2)

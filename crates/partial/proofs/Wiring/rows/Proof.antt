@@ -42,10 +42,10 @@ loop-again c =
     (sym (ap (λ (p : Found). p .found) (here (c .before))) ∙ c .if1 .left)
 
 returns-2 : tie.Need-returns-2 Inv-loop μ-loop
-unfolding found
 returns-2 c =
-    let start = c .before .before .before .before in
-    sym (ap found (rows-ends (start .args .self .n) (start .pre .few) _ (start .pre .allowed) _ _ _ _ (c .before .loop .inv) (c .loop-test .left)))
+    let start = c .before .before .before .before .before in
+    c .nothing .ensures
+    ∙ sym (ap found (rows-ends (start .args .self .n) (start .pre .few) _ (start .pre .allowed) _ _ _ _ (c .before .before .loop .inv) (c .before .loop-test .left)))
 
 pub rows-spec : {M : Type 1} → statement M
 rows-spec =
@@ -65,4 +65,5 @@ rows-spec =
     (λ c. omega arith)
     (λ c. omega arith)
     loop-again
+    (λ c κs. search needs)
     returns-2)
