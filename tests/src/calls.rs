@@ -38,6 +38,16 @@ mod foreign {
             out: *mut u8,
             out_len: usize,
         ) -> u64;
+
+        pub fn probe_dead(
+            f: *const u8,
+            f_len: usize,
+            g: *const u8,
+            g_len: usize,
+            w: *const u8,
+            w_len: usize,
+            q: u8,
+        ) -> u64;
     }
 }
 
@@ -88,3 +98,12 @@ pub struct RecordCalls {
 }
 
 pub const ARCHIVE: RecordCalls = RecordCalls { read, summary, write, fault };
+
+/// The first dead pair of f and g under the partial wiring w: 2 + s + 256·u +
+/// 65,536·v, or 1 if no pair is dead, or 0 if f, g or w is not as it should be.
+pub fn dead(f: &[u8], g: &[u8], w: &[u8], q: u8) -> u64 {
+    unsafe { foreign::probe_dead(f.as_ptr(), f.len(), g.as_ptr(), g.len(), w.as_ptr(), w.len(), q) }
+}
+
+/// The call for dead pairs, as a value.
+pub type DeadCall = fn(&[u8], &[u8], &[u8], u8) -> u64;

@@ -263,3 +263,90 @@ pub const FAULTS: &[FaultCase] = &[
     FaultCase { name: "f good, g empty", f: CONJ, g: &[], part: EMPTY, bytes: &[] },
     FaultCase { name: "f of wrong mark, g bad", f: &[0x47], g: SIX, part: EMPTY, bytes: &[] },
 ];
+
+/// The first dead pair of two functions under a partial wiring.
+pub struct DeadCase {
+    pub name: &'static str,
+    pub f: &'static [Run],
+    pub g: &'static [Run],
+    pub w: &'static [u8],
+    pub q: u8,
+    pub answer: u64,
+}
+
+impl DeadCase {
+    pub fn f(&self) -> Vec<u8> {
+        bytes(self.f)
+    }
+
+    pub fn g(&self) -> Vec<u8> {
+        bytes(self.g)
+    }
+}
+
+const fn dead(
+    name: &'static str,
+    [f, g]: [&'static [Run]; 2],
+    w: &'static [u8],
+    q: u8,
+    answer: u64,
+) -> DeadCase {
+    DeadCase { name, f, g, w, q, answer }
+}
+
+const REFUSED: u64 = 0;
+const NOTHING: u64 = 1;
+
+/// The pair that the bytes s, u, v of a closing name.
+const fn pair(s: u64, u: u64, v: u64) -> u64 {
+    2 + s + 256 * u + 65_536 * v
+}
+
+const CONJ_DISJ: [&[Run]; 2] = [&[(CONJ, 1)], &[(DISJ, 1)]];
+const CONJ_ODD: [&[Run]; 2] = [&[(CONJ, 1)], &[(ODD, 1)]];
+const CONST_WIRE: [&[Run]; 2] = [&[(CONST, 1)], &[(WIRE, 1)]];
+const OPEN_WIRE: [&[Run]; 2] = [&[(OPEN, 1)], &[(WIRE, 1)]];
+const WIRE_WIRE: [&[Run]; 2] = [&[(WIRE, 1)], &[(WIRE, 1)]];
+const WIRE_CONJ: [&[Run]; 2] = [&[(WIRE, 1)], &[(CONJ, 1)]];
+
+/// With input 0 placed straight, it separates all pairs but those with the last
+/// cube of g; of these only the last cube of f has no literal left for it.
+const LAST_PAIR: [&[Run]; 2] = [
+    &[(&[0x46, 0x4E, 2, 64, 0], 1), (&[3, 0], 63), (&[1, 0], 1)],
+    &[(&[0x46, 0x4E, 2, 0, 64], 1), (&[0, 3], 63), (&[0, 2], 1)],
+];
+
+pub const DEAD: &[DeadCase] = &[
+    // The nodes of the refusal that 01 prints for Conj to Odd, both trees.
+    dead("Conj to Odd, q 0, root", CONJ_ODD, &[], 0, NOTHING),
+    dead("Conj to Odd, q 0, child 0", CONJ_ODD, &[0x00], 0, pair(1, 0, 1)),
+    dead("Conj to Odd, q 0, child 1", CONJ_ODD, &[0x10], 0, pair(1, 0, 0)),
+    dead("Conj to Odd, q 0, child 2", CONJ_ODD, &[0x01], 0, pair(1, 0, 0)),
+    dead("Conj to Odd, q 0, child 3", CONJ_ODD, &[0x11], 0, pair(1, 0, 1)),
+    dead("Conj to Odd, q 1, root", CONJ_ODD, &[], 1, NOTHING),
+    dead("Conj to Odd, q 1, child 0", CONJ_ODD, &[0x00], 1, pair(1, 0, 1)),
+    dead("Conj to Odd, q 1, child 1", CONJ_ODD, &[0x10], 1, pair(1, 0, 0)),
+    dead("Conj to Odd, q 1, child 2", CONJ_ODD, &[0x01], 1, pair(1, 0, 1)),
+    dead("Conj to Odd, q 1, child 3", CONJ_ODD, &[0x11], 1, pair(1, 0, 0)),
+    dead("Const to Wire, q 0", CONST_WIRE, &[], 0, pair(0, 0, 0)),
+    dead("Const to Wire, q 1", CONST_WIRE, &[], 1, pair(0, 0, 0)),
+    // Wirings that agree, as 01 says, and one that does not.
+    dead("Conj to Disj, its match", CONJ_DISJ, &[0x10, 0x11], 1, NOTHING),
+    dead("Conj to Disj, the match's start", CONJ_DISJ, &[0x10], 1, NOTHING),
+    dead("Open to Wire", OPEN_WIRE, &[0x00], 0, NOTHING),
+    dead("Open to Wire, inverted", OPEN_WIRE, &[0x10], 0, NOTHING),
+    dead("Wire to Wire, inverted, q 0", WIRE_WIRE, &[0x10], 0, pair(0, 0, 0)),
+    dead("Wire to Wire, inverted, q 1", WIRE_WIRE, &[0x10], 1, NOTHING),
+    dead("Wire to Conj", WIRE_CONJ, &[], 0, REFUSED),
+    dead("Conj to Disj, an input of g twice", CONJ_DISJ, &[0x10, 0x10], 1, REFUSED),
+    // By hand.
+    dead("an input of g twice, plain and inverted", CONJ_DISJ, &[0x00, 0x10], 1, REFUSED),
+    dead("input n of g", CONJ_DISJ, &[0x02], 0, REFUSED),
+    dead("input n of g, inverted", CONJ_DISJ, &[0x12], 0, REFUSED),
+    dead("three choices for two inputs", CONJ_DISJ, &[0x00, 0x01, 0x02], 0, REFUSED),
+    dead("Conj to Disj, straight", CONJ_DISJ, &[0x00, 0x01], 0, pair(1, 0, 1)),
+    dead("q 2 counts as 1", CONJ_ODD, &[0x01], 2, pair(1, 0, 1)),
+    dead("q 255 counts as 1", CONJ_ODD, &[0x01], 255, pair(1, 0, 1)),
+    dead("cube 63 and cube 63", LAST_PAIR, &[0x00], 0, pair(0, 63, 63)),
+    dead("no pair under q 1", LAST_PAIR, &[0x00], 1, NOTHING),
+];

@@ -7,11 +7,12 @@
 //! - `calls`: the functions under test, taken from the static archive;
 //! - `random`: a generator with fixed seeds, and the functions made by it;
 //! - `records`: the calls on function records, held against the reference;
+//! - `wirings`: the call for dead pairs under a partial wiring, likewise;
 //! - `cases`: the small functions and cases that 01 names, with its numbers;
 //! - `tally`, `show`: what was compared, and how bytes and answers are printed.
 //!
-//! Wirings, claims, checker and matcher each get a module of the reference and
-//! a module beside `records`.
+//! Claims, checker and matcher each get a module of the reference and a module
+//! beside `records` and `wirings`.
 
 pub mod calls;
 pub mod cases;
@@ -20,3 +21,4 @@ pub mod records;
 pub mod reference;
 pub mod show;
 pub mod tally;
+pub mod wirings;

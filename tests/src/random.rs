@@ -51,7 +51,12 @@ impl Random {
 /// A valid function of any n, in one of several styles, with lists of any size.
 pub fn any_function(random: &mut Random) -> Function {
     let n = 1 + random.below(INPUTS);
-    let sizes = [any_size(random), any_size(random)];
+    function_of(random, n, any_size)
+}
+
+/// A valid function of n inputs, in one of several styles.
+pub fn function_of(random: &mut Random, n: usize, size: fn(&mut Random) -> usize) -> Function {
+    let sizes = [size(random), size(random)];
     match random.below(8) {
         0..=2 => from_table(random, n, sizes),
         3..=4 => split_by_an_input(random, n, sizes),
@@ -79,7 +84,7 @@ pub fn full_function(random: &mut Random, n: usize) -> Function {
 }
 
 /// The sizes at the edges come up often, the others now and then.
-fn any_size(random: &mut Random) -> usize {
+pub fn any_size(random: &mut Random) -> usize {
     match random.below(12) {
         0 => 0,
         1 => 1,
@@ -87,6 +92,14 @@ fn any_size(random: &mut Random) -> usize {
         3 => MOST_CUBES,
         4..=9 => random.below(8),
         _ => random.below(MOST_CUBES + 1),
+    }
+}
+
+/// Lists of few cubes leave more wirings that agree; an empty one comes seldom.
+pub fn few(random: &mut Random) -> usize {
+    match random.below(8) {
+        0 => 0,
+        _ => 1 + random.below(4),
     }
 }
 
@@ -160,7 +173,13 @@ fn constant(random: &mut Random, n: usize, size: usize) -> Function {
 /// Any cubes in one list; the other is empty.
 fn one_sided(random: &mut Random, n: usize, size: usize) -> Function {
     let list: Vec<Cube> = (0..size).map(|_| any_cube(random, n)).collect();
-    if random.flip() {
+    let on = random.flip();
+    with_one_list(n, list, on)
+}
+
+/// The list as the on list, or else as the off list; the other is empty.
+pub fn with_one_list(n: usize, list: Vec<Cube>, on: bool) -> Function {
+    if on {
         Function { n, on: list, off: vec![] }
     } else {
         Function { n, on: vec![], off: list }
@@ -170,7 +189,7 @@ fn one_sided(random: &mut Random, n: usize, size: usize) -> Function {
 // ---- Cubes ----
 
 /// A cube in which each input is plain, inverted or missing.
-fn any_cube(random: &mut Random, n: usize) -> Cube {
+pub fn any_cube(random: &mut Random, n: usize) -> Cube {
     let mut cube = Cube::ALL;
     for input in 0..n {
         match random.below(3) {
@@ -186,7 +205,8 @@ fn point(n: usize, pattern: usize) -> Cube {
     (0..n).fold(Cube::ALL, |cube, input| with(cube, input, value(pattern, input)))
 }
 
-fn with(cube: Cube, input: usize, side: bool) -> Cube {
+/// The cube with a literal more: the input must be 1, or must be 0.
+pub fn with(cube: Cube, input: usize, side: bool) -> Cube {
     let bit = 1 << input;
     if side {
         Cube { p: cube.p | bit, n: cube.n }
@@ -195,7 +215,8 @@ fn with(cube: Cube, input: usize, side: bool) -> Cube {
     }
 }
 
-fn without(cube: Cube, input: usize) -> Cube {
+/// The cube without its literal on an input.
+pub fn without(cube: Cube, input: usize) -> Cube {
     Cube { p: cube.p & !(1 << input), n: cube.n & !(1 << input) }
 }
 

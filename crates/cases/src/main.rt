@@ -1,14 +1,20 @@
-// Runs the cases of document 01 on records and summaries through the public calls, and prints a line for each.
+// Runs the cases of document 01 on records and summaries, and the examples of the 1995 paper, through the public calls, and
+// prints a line for each.
 ghost use Prim.Native.Nat.{_≤_};
 ghost use lib.ListN.{length};
 
 mod functions;
 mod kinds;
 mod show;
+mod wirings;
 
 use functions::CONJ;
 use functions::CONST;
 use functions::DISJ;
+use functions::F_2_1;
+use functions::F_3_2;
+use functions::G_2_1;
+use functions::G_3_2;
 use functions::ODD;
 use functions::OPEN;
 use functions::WIRE;
@@ -116,6 +122,16 @@ fn at_fault() {
     kinds::faults(b"At fault, f ends too early", &CONJ[..10], &CLASH);
 }
 
+// What the paper says of its examples, and the straight wirings, which do not agree.
+fn examples() {
+    wirings::one(b"Example 2.1", &F_2_1, &G_2_1, b"\x01\x02\x10");
+    wirings::first(b"Example 2.1", &F_2_1, &G_2_1);
+    wirings::plain(b"Example 3.2", &F_3_2, &G_3_2);
+    wirings::first(b"Example 3.2", &F_3_2, &G_3_2);
+    wirings::one(b"Example 2.1", &F_2_1, &G_2_1, b"\x00\x01\x02");
+    wirings::one(b"Example 3.2", &F_3_2, &G_3_2, b"\x00\x01\x02");
+}
+
 fn main() {
     summaries();
     two_inputs();
@@ -127,4 +143,5 @@ fn main() {
     rooms();
     refusals();
     at_fault();
+    examples();
 }

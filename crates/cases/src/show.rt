@@ -35,7 +35,7 @@ fn digit(d: u8) -> u8
     if d < 10 { b'0' + d } else { b'A' + (d - 10) }
 }
 
-fn byte(b: u8) {
+pub fn byte(b: u8) {
     let two = [digit(b / 16), digit(b % 16)];
     text(&two);
 }

@@ -53,13 +53,13 @@ clears-settled κs a r₁ r₂ s₁ s₂ p q = p ∙ sym q
 
 -- a wiring is fixed by n and its choices
 pub start-settled : Settled 0 start-kinds.ps start-kinds.r start.Post
-start-settled κs a r₁ r₂ s₁ s₂ p q = p .is ∙ sym (q .is)
+start-settled κs a r₁ r₂ s₁ s₂ p q = p .0 .is ∙ sym (q .0 .is)
 
 pub free-settled : Settled 0 free-kinds.ps free-kinds.r free.Post
 free-settled κs a r₁ r₂ s₁ s₂ p q = p ∙ sym q
 
 pub place-settled : Settled 0 place-kinds.ps place-kinds.r place.Post
-place-settled κs a r₁ r₂ s₁ s₂ p q = p .is ∙ sym (q .is)
+place-settled κs a r₁ r₂ s₁ s₂ p q = p .0 .is ∙ sym (q .0 .is)
 
 pub locate-settled : Settled 0 locate-kinds.ps locate-kinds.r locate.Post
 locate-settled κs a r₁ r₂ s₁ s₂ p q = p ∙ sym q

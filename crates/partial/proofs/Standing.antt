@@ -13,15 +13,15 @@ use lib.Dec.{eqb, ltb, leb, lit<}
 use lib.ListN.{length, getD, length-append, List·getD-eq-default}
 use lib.Pow.{pow-lt, pow-mono, shl-exact}
 use Rattle.bits.specs.Bits.{bit, mask}
-use Rattle.bits.proofs.Tests.{both, both-left, both-right, same-test, eqb-comm, below-or-not}
+use Rattle.bits.proofs.Tests.{both, both-left, both-right, same-test, eqb-comm, below-or-not, not-passed}
 use Rattle.bits.proofs.Bit.{bit-le}
 use Rattle.bits.proofs.Mask.{mask-has, mask-above, mask-same, mask-drop, mask-low}
 use Rattle.rules.specs.Lists.{some-in}
 use Rattle.rules.specs.Rules.{follows, _adding_}
 use Rattle.wirings.specs.Wirings.{input-of, inverted, straight, is-choice, uses, free-choice}
-use Rattle.wirings.proofs.Choices.{choice-input, choice-byte, plain-choice, place-next, free-count, uses-adding, placed-choice, placed-input}
+use Rattle.wirings.proofs.Choices.{choice-input, choice-byte, choice-below, plain-choice, place-next, free-count, uses-adding, placed-choice, placed-input}
 use Rattle.partial.specs.declared.Wiring.{Wiring}
-use Rattle.partial.specs.Partial.{packed, unplaced, unused, partial, prefix, Stands, Formed, located}
+use Rattle.partial.specs.Partial.{packed, unplaced, unused, partial, prefix, Stands, Formed, may-place, located}
 use Rattle.partial.proofs.Packed.{Bytes, packed-lt, packed-add, packed-at, unpacked-packed}
 
 module _ (n : ℕ) (few : n ≤ 8) (w : List ℕ) (allowed : follows (straight n) [] w ≡ true) where
@@ -71,16 +71,24 @@ not-zero zero h = refl
 not-zero (suc zero) h = refl
 not-zero (suc (suc b)) h = absurd (omega (arith, h))
 
-pub free-masks : (r : Wiring) (b : ℕ) → Formed r → not (eqb (bitAnd (r .free / 2 ^ bitAnd b 15) 1) 0) ≡ ltb (input-of b) (r .n) && free-choice (prefix r) b
-unfolding bit
-free-masks r b s =
-    let j = input-of b in
-    let t = unused (r .n) (prefix r) in
-    ap (λ (k : ℕ). not (eqb k 0)) (and-mask (r .free / 2 ^ bitAnd b 15) 1 ∙ ap₂ (λ (m k : ℕ). m / 2 ^ k % 2) (stands-free r (r .n) (prefix r) s) (and-mask b 4))
-    ∙ not-zero (bit j (mask 8 t)) (bit-le j (mask 8 t))
-    ∙ ⊎-elim (mask-has 8 t j)
-    (λ (h : 8 ≤ j). mask-above 8 t j h ∙ sym (ap (λ (u : Bool). u && free-choice (prefix r) b) (le-ltb j (r .n) (le-trans (s .few) h))))
-    (below-or-not j 8)
+module _ (r : Wiring) (b : ℕ) (s : Formed r) where
+  -- a byte of 32 or more is no choice
+  pub too-large : 32 ≤ b → false ≡ may-place r b
+  too-large h =
+      sym (ap (λ (t : Bool). t && free-choice (prefix r) b) (not-passed (is-choice (r .n) b) (λ e. omega (arith, choice-byte (r .n) (omega (arith, s .few)) b e))))
+
+  -- of a byte below 32, the bit of its input decides
+  pub free-masks : b < 32 → not (eqb (bitAnd (r .free / 2 ^ bitAnd b 15) 1) 0) ≡ may-place r b
+  unfolding bit
+  free-masks low =
+      let j = input-of b in
+      let t = unused (r .n) (prefix r) in
+      ap (λ (k : ℕ). not (eqb k 0)) (and-mask (r .free / 2 ^ bitAnd b 15) 1 ∙ ap₂ (λ (m k : ℕ). m / 2 ^ k % 2) (stands-free r (r .n) (prefix r) s) (and-mask b 4))
+      ∙ not-zero (bit j (mask 8 t)) (bit-le j (mask 8 t))
+      ∙ ⊎-elim (mask-has 8 t j)
+      (λ (h : 8 ≤ j). mask-above 8 t j h ∙ sym (ap (λ (u : Bool). u && free-choice (prefix r) b) (le-ltb j (r .n) (le-trans (s .few) h))))
+      (below-or-not j 8)
+      ∙ ap (λ (u : Bool). u && free-choice (prefix r) b) (sym (choice-below (r .n) (omega (arith, s .few)) b low))
 
 -- ---- the empty one
 
@@ -191,7 +199,10 @@ but t w b j =
     turn true true y = refl
     turn true false y = refl
 
-module _ (r : Wiring) (b : ℕ) (s : Formed r) (choice : is-choice (r .n) b ≡ true) (free : free-choice (prefix r) b ≡ true) where
+module _ (r : Wiring) (b : ℕ) (s : Formed r) (may : may-place r b ≡ true) where
+  choice : is-choice (r .n) b ≡ true
+  choice = both-left (is-choice (r .n) b) (free-choice (prefix r) b) may
+
   abbrev w : List ℕ
   w = prefix r
 
@@ -199,7 +210,7 @@ module _ (r : Wiring) (b : ℕ) (s : Formed r) (choice : is-choice (r .n) b ≡ 
   more = w adding b
 
   allowed-more : follows (straight (r .n)) [] more ≡ true
-  allowed-more = place-next (r .n) w b (s .allowed) choice (not-true (uses w (input-of b)) free)
+  allowed-more = place-next (r .n) w b (s .allowed) choice (not-true (uses w (input-of b)) (both-right (is-choice (r .n) b) (free-choice w b) may))
 
   pub room : length w < r .n
   room = omega (arith, placed-within (r .n) (s .few) more allowed-more, length-append w (b ∷ []))

@@ -11,7 +11,7 @@ use Rattle.bits.specs.Bits.{has, mask, any}
 use Rattle.cubes.specs.Cubes.{cube-names}
 use Rattle.rules.specs.Lists.{upto, first}
 use Rattle.rules.specs.Rules.{follows}
-use Rattle.wirings.specs.Wirings.{input-of, inverted, uses, straight}
+use Rattle.wirings.specs.Wirings.{input-of, inverted, uses, is-choice, free-choice, straight}
 use Rattle.wirings.specs.Pairs.{carried-pos, carried-neg, unplaced-literal, dead, cubes-in, Pair}
 use Rattle.partial.specs.declared.Wiring.{Wiring}
 use Rattle.partial.specs.declared.Carried.{Carried}
@@ -51,6 +51,10 @@ prefix r = unpacked (r .depth) (r .choices)
 
 abbrev pub Formed : Wiring → Type 0
 Formed r = Stands r (r .n) (prefix r)
+
+-- a byte is a choice of n inputs whose input of g is free
+abbrev pub may-place : Wiring → ℕ → Bool
+may-place r b = is-choice (r .n) b && free-choice (prefix r) b
 
 -- ---- where literals go
 

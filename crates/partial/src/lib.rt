@@ -1,18 +1,17 @@
 // The partial wiring, by value: one step gives it the next input's choice and returns it, and it answers where a cube's
 // literals go. With it, the test of one pair and the first dead pair of two records.
 ghost use mathlib.Core.Path.{_≡_};
-ghost use mathlib.Core.Bool.{true, cond, _&&_};
+ghost use mathlib.Core.Bool.{true, cond};
 ghost use mathlib.Core.List.{[]};
 ghost use mathlib.Core.Option.{none};
 ghost use Prim.Native.Nat.{_≤_, _<_, _^_};
-ghost use lib.Dec.{ltb};
 ghost use lib.ListN.{length};
 ghost use Rattle.bits.specs.Bits.{has};
 ghost use Rattle.rules.specs.Rules.{_adding_};
 ghost use Rattle.records.specs.Records.{record-end};
-ghost use Rattle.wirings.specs.Wirings.{input-of, inverted, choice-at, is-choice, free-choice};
+ghost use Rattle.wirings.specs.Wirings.{inverted, choice-at, is-choice};
 ghost use Rattle.wirings.specs.Pairs.{separates, dead, side, against, first-dead};
-ghost use Rattle.partial.specs.Partial.{prefix, Stands, Formed, located, carried, opposes, clears, found, row, rows};
+ghost use Rattle.partial.specs.Partial.{prefix, Stands, Formed, may-place, located, carried, opposes, clears, found, row, rows};
 
 // A partial wiring of n inputs: the inputs of f below `depth` have their choices, byte i of `choices` for input i. Two masks
 // say what remains: the inputs of f that are unplaced, and the inputs of g that are free.
@@ -156,6 +155,7 @@ impl Wiring {
     pub fn start(n: u8) -> Self
         requires { ⌜ n ≤ 8 ⌝ }
         ensures { λ r. ⌜ Stands r n [] ⌝ }
+        ensures { λ r. ⌜ Formed r ⌝ }
     {
         let all = ((1u32 << n) - 1) as u8;
         Wiring {
@@ -167,20 +167,23 @@ impl Wiring {
         }
     }
 
-    // Whether the input of g that a choice names is free.
+    // Whether a byte is a choice whose input of g is free.
     pub fn free(self, choice: u8) -> bool
         requires { ⌜ Formed self ⌝ }
-        ensures { λ r. ⌜ r ≡ ltb (input-of choice) (self .n) && free-choice (prefix self) choice ⌝ }
+        ensures { λ r. ⌜ r ≡ may-place self choice ⌝ }
     {
+        if choice >= 32 {
+            return false;
+        }
         (self.free as u32 >> (choice & 15)) & 1 != 0
     }
 
     // The next input of f is given its choice.
     pub fn place(self, choice: u8) -> Self
         requires { ⌜ Formed self ⌝ }
-        requires { ⌜ is-choice (self .n) choice ≡ true ⌝ }
-        requires { ⌜ free-choice (prefix self) choice ≡ true ⌝ }
+        requires { ⌜ may-place self choice ≡ true ⌝ }
         ensures { λ r. ⌜ Stands r (self .n) (prefix self adding choice) ⌝ }
+        ensures { λ r. ⌜ Formed r ⌝ }
     {
         Wiring {
             n: self.n,

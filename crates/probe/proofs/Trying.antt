@@ -6,21 +6,21 @@ use mathlib.Core.List.{List, []}
 use mathlib.Core.Option.{Option, none, some}
 use native.Mathlib.Numerals.{add-one}
 use native.Mathlib.Omega.{arith}
-use borrow.Author.Tests.{lt-ltb, eqb-true}
-use lib.Dec.{eqb, ltb}
+use borrow.Author.Tests.{eqb-true}
+use lib.Dec.{eqb}
 use lib.ListN.{length, getD, take, drop, drop-of-length-le}
 use lib.Seq.{drop-cons, take-suc, take-all}
 use Rattle.bits.proofs.Tests.{both-left, both-right}
 use Rattle.rules.specs.Rules.{_adding_, follows}
 use Rattle.records.specs.Records.{inputs, record-fault}
 use Rattle.records.proofs.Frame.{Framed, record-sound}
-use Rattle.wirings.specs.Wirings.{input-of, is-choice, free-choice, straight}
-use Rattle.wirings.proofs.Choices.{choice-input, listed}
+use Rattle.wirings.specs.Wirings.{is-choice, free-choice, straight}
+use Rattle.wirings.proofs.Choices.{listed}
 use Rattle.wirings.specs.Pairs.{Pair, first-dead}
 use Rattle.wirings.proofs.Death.{few-pairs, first-dead-is}
 use Rattle.partial.specs.declared.Wiring.{Wiring}
-use Rattle.partial.specs.Partial.{prefix, Stands, Formed, found}
-use Rattle.partial.proofs.Standing.{stands-formed, stands-prefix, stands-n}
+use Rattle.partial.specs.Partial.{prefix, Stands, may-place, found}
+use Rattle.partial.proofs.Standing.{stands-prefix, stands-n}
 use Rattle.probe.specs.Probe.{comparable, Few}
 
 module _ (n : ℕ) (w : List ℕ) where
@@ -32,7 +32,7 @@ module _ (n : ℕ) (w : List ℕ) where
   pub trying-starts : (r : Wiring) → Stands r n [] → Trying 0 r
   trying-starts r s = record { within = omega arith; stands = s; rest = refl }
 
-  module _ (few : n ≤ 8) (at : ℕ) (r : Wiring) (k : Trying at r) where
+  module _ (at : ℕ) (r : Wiring) (k : Trying at r) where
     abbrev b : ℕ
     b = getD w at 0
 
@@ -43,37 +43,21 @@ module _ (n : ℕ) (w : List ℕ) where
         k .rest ∙ ap (follows (straight n) (take at w)) (drop-cons w at 0 h)
         ∙ rw add-one (ap₂ (λ (t : Bool) (u : List ℕ). t && free-choice (take at w) b && follows (straight n) u (drop (suc at) w)) (listed n b) (sym (take-suc w at 0 h)))
 
-    -- a byte that is no choice, or names an input that is used, ends it
-    pub not-choice : at < length w → is-choice n b ≡ false → false ≡ follows (straight n) [] w
-    not-choice h e = sym (step h ∙ ap (λ (t : Bool). t && free-choice (take at w) b && follows (straight n) (take (at + 1) w) (drop (at + 1) w)) e)
+    -- what the wiring's test says of the byte
+    tested : may-place r b ≡ is-choice n b && free-choice (take at w) b
+    tested = ap₂ (λ (m : ℕ) (u : List ℕ). is-choice m b && free-choice u b) (stands-n r n (take at w) (k .stands)) (stands-prefix r n (take at w) (k .stands))
 
-    -- what the test of a free input says of a choice
-    tested : is-choice n b ≡ true → ltb (input-of b) (r .n) && free-choice (prefix r) b ≡ free-choice (take at w) b
-    tested e =
-        let below : ltb (input-of b) (r .n) ≡ true = ap (ltb (input-of b)) (stands-n r n (take at w) (k .stands)) ∙ lt-ltb (input-of b) n (choice-input n (omega arith) b e) in
-        ap₂ (λ (t : Bool) (u : List ℕ). t && free-choice u b) below (stands-prefix r n (take at w) (k .stands))
+    -- a byte that may not be placed ends it
+    pub not-free : at < length w → (t : Bool) → t ≡ may-place r b → t ≡ false → false ≡ follows (straight n) [] w
+    not-free h t is fails = sym (step h ∙ ap (λ (t : Bool). t && follows (straight n) (take (at + 1) w) (drop (at + 1) w)) (sym tested ∙ sym is ∙ fails))
 
-    pub not-free : at < length w → is-choice n b ≡ true → (t : Bool) → t ≡ ltb (input-of b) (r .n) && free-choice (prefix r) b → t ≡ false → false ≡ follows (straight n) [] w
-    not-free h e t is fails =
-        sym
-        (step h
-        ∙ ap₂ (λ (t u : Bool). t && u && follows (straight n) (take (at + 1) w) (drop (at + 1) w)) e (sym (tested e) ∙ sym is ∙ fails))
-
-    -- what placing it needs, and what it gives
-    pub is-free : is-choice n b ≡ true → (t : Bool) → t ≡ ltb (input-of b) (r .n) && free-choice (prefix r) b → t ≡ true
-        → Formed r × (is-choice (r .n) b ≡ true) × (free-choice (prefix r) b ≡ true)
-    is-free e t is holds =
-        let there = stands-prefix r n (take at w) (k .stands) in
-        (stands-formed r n (take at w) (k .stands), ap (λ (m : ℕ). is-choice m b) (stands-n r n (take at w) (k .stands)) ∙ e, ap (λ (u : List ℕ). free-choice u b) there ∙ sym (tested e) ∙ sym is ∙ holds)
-
-    pub trying-goes : at < length w → is-choice n b ≡ true → (t : Bool) → t ≡ ltb (input-of b) (r .n) && free-choice (prefix r) b → t ≡ true
-        → (r′ : Wiring) → Stands r′ (r .n) (prefix r adding b) → Trying (at + 1) r′
-    trying-goes h e t is holds r′ s =
+    pub trying-goes : at < length w → (t : Bool) → t ≡ may-place r b → t ≡ true → (r′ : Wiring) → Stands r′ (r .n) (prefix r adding b) → Trying (at + 1) r′
+    trying-goes h t is holds r′ s =
         let there : prefix r adding b ≡ take (at + 1) w = ap (λ (u : List ℕ). u adding b) (stands-prefix r n (take at w) (k .stands)) ∙ rw add-one (sym (take-suc w at 0 h)) in
         record {
           within = omega arith;
           stands = subst₂ (Stands r′) (stands-n r n (take at w) (k .stands)) there s;
-          rest = step h ∙ ap₂ (λ (t u : Bool). t && u && follows (straight n) (take (at + 1) w) (drop (at + 1) w)) e (sym (tested e) ∙ sym is ∙ holds);
+          rest = step h ∙ ap (λ (t : Bool). t && follows (straight n) (take (at + 1) w) (drop (at + 1) w)) (sym tested ∙ sym is ∙ holds);
         }
 
     pub all-tried : length w ≤ at → (true ≡ follows (straight n) [] w) × Stands r n w

@@ -96,12 +96,6 @@ fn try_all(n: u8, choices: &[u8]) -> Tried
     let mut at = 0;
     while at < choices.len() {
         let choice = choices[at];
-        if !partial::is_choice(n, choice) {
-            return Tried {
-                good: false,
-                wiring,
-            };
-        }
         if !wiring.free(choice) {
             return Tried {
                 good: false,

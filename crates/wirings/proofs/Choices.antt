@@ -45,6 +45,14 @@ choice-input n small b e = ⊎-elim (λ (h : (0 ≤ b) × (b < 0 + n)). omega ar
 pub choice-byte : (n : ℕ) → n ≤ 16 → (b : ℕ) → is-choice n b ≡ true → b < 32
 choice-byte n small b e = ⊎-elim (λ (h : (0 ≤ b) × (b < 0 + n)). omega arith) (λ (h : (0 + 16 ≤ b) × (b < 0 + 16 + n)). omega arith) (test-choice n b e)
 
+-- of a byte below 32, its input decides
+pub choice-below : (n : ℕ) → n ≤ 16 → (b : ℕ) → b < 32 → is-choice n b ≡ ltb (input-of b) n
+choice-below n small b low =
+    same-test (is-choice n b) (ltb (input-of b) n) (λ e. lt-ltb (input-of b) n (choice-input n small b e))
+    (λ e.
+    let h = ltb-true (input-of b) n e in
+    choice-test n b (⊎-elim (λ (l : b < 16). inl (omega arith)) (λ (l : 16 ≤ b). inr (omega arith)) (below-or-not b 16)))
+
 -- each input j of g has two choices: j, and j + 16
 pub plain-choice : (n : ℕ) → n ≤ 16 → (j : ℕ) → j < n → (is-choice n j ≡ true) × (input-of j ≡ j) × (inverted j ≡ false)
 plain-choice n small j h = (choice-test n j (inl (omega arith)), omega arith, lt-leb 16 j (omega arith))

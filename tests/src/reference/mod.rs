@@ -4,9 +4,14 @@
 //! each input is looked at. This is slow on purpose: the calls under test work
 //! with masks, and a reference that did the same could share their mistakes.
 
+pub mod agreement;
 pub mod answer;
+pub mod dead;
 pub mod fault;
+pub mod pair;
 pub mod pattern;
 pub mod record;
 pub mod summary;
+pub mod two;
+pub mod wiring;
 pub mod writer;

@@ -55,6 +55,13 @@ impl Cube {
     }
 }
 
+/// The cubes of n inputs: each input is in P, in N or in neither.
+pub fn every_cube(n: usize) -> Vec<Cube> {
+    let masks = 0..=(patterns(n).end - 1) as u8;
+    let cubes = masks.clone().flat_map(|p| masks.clone().map(move |n| Cube { p, n }));
+    cubes.filter(|cube| !(0..n).any(|input| cube.names_twice(input))).collect()
+}
+
 /// Whether two cubes share a pattern: all 256 are tried.
 pub fn share(one: Cube, other: Cube) -> bool {
     patterns(INPUTS).any(|pattern| one.holds(pattern) && other.holds(pattern))
@@ -109,6 +116,12 @@ mod tests {
     #[test]
     fn a_cube_without_literals_holds_all_patterns() {
         assert!(patterns(INPUTS).all(|pattern| Cube::ALL.holds(pattern)));
+    }
+
+    #[test]
+    fn there_are_three_cubes_for_each_input() {
+        assert_eq!([1, 2, 3, 4].map(|n| every_cube(n).len()), [3, 9, 27, 81]);
+        assert!(every_cube(3).iter().all(|cube| patterns(3).any(|pattern| cube.holds(pattern))));
     }
 
     #[test]

@@ -1,24 +1,25 @@
 -- The next input gets its choice: two bits are cleared and a byte is added.
 use native.Mathlib.Omega.{arith}
 use borrow.Author.Needs.{needs}
-use Rattle.partial.proofs.Standing.{depth-room, input-room, choices-fit, placed}
+use Rattle.partial.proofs.Standing.{depth-room, input-room, choices-fit, placed, stands-formed}
 use Rattle.partial.proofs.Wiring.place.Statement.{statement}
 use Rattle.partial.proofs.Wiring.place.Tie as tie
 
 returns : tie.Need-returns
 returns c =
     let b = c .before .before .before .before .before .before in
-    placed (b .args .self) (b .args .choice) (b .pre .0) (b .pre .1 .0) (b .pre .1 .1)
+    let r = placed (b .args .self) (b .args .choice) (b .pre .0) (b .pre .1) in
+    (r, stands-formed _ _ _ r)
 
 pub place-spec : {M : Type 1} → statement M
 place-spec =
     tie.close
     (tie.spec
-    (λ c. let b = c .before in omega (arith, depth-room (b .args .self) (b .args .choice) (b .pre .0) (b .pre .1 .0) (b .pre .1 .1)))
-    (λ c. let b = c .before .before in depth-room (b .args .self) (b .args .choice) (b .pre .0) (b .pre .1 .0) (b .pre .1 .1))
-    (λ c. let b = c .before .before .before in input-room (b .args .self) (b .args .choice) (b .pre .0) (b .pre .1 .0) (b .pre .1 .1))
-    (λ c. let b = c .before .before .before .before .before in omega (arith, depth-room (b .args .self) (b .args .choice) (b .pre .0) (b .pre .1 .0) (b .pre .1 .1)))
+    (λ c. let b = c .before in omega (arith, depth-room (b .args .self) (b .args .choice) (b .pre .0) (b .pre .1)))
+    (λ c. let b = c .before .before in depth-room (b .args .self) (b .args .choice) (b .pre .0) (b .pre .1))
+    (λ c. let b = c .before .before .before in input-room (b .args .self) (b .args .choice) (b .pre .0) (b .pre .1))
+    (λ c. let b = c .before .before .before .before .before in omega (arith, depth-room (b .args .self) (b .args .choice) (b .pre .0) (b .pre .1)))
     (λ c. search needs)
-    (λ c. let b = c .before .before .before .before .before in omega (arith, depth-room (b .args .self) (b .args .choice) (b .pre .0) (b .pre .1 .0) (b .pre .1 .1)))
-    (λ c. let b = c .before .before .before .before .before .before in omega (arith, choices-fit (b .args .self) (b .args .choice) (b .pre .0) (b .pre .1 .0) (b .pre .1 .1)))
+    (λ c. let b = c .before .before .before .before .before in omega (arith, depth-room (b .args .self) (b .args .choice) (b .pre .0) (b .pre .1)))
+    (λ c. let b = c .before .before .before .before .before .before in omega (arith, choices-fit (b .args .self) (b .args .choice) (b .pre .0) (b .pre .1)))
     returns)

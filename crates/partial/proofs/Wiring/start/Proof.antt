@@ -2,12 +2,12 @@
 use native.Mathlib.Omega.{arith}
 use borrow.Author.Needs.{needs}
 use lib.Pow.{pow-pos, pow-mono}
-use Rattle.partial.proofs.Standing.{all-inputs, started}
+use Rattle.partial.proofs.Standing.{all-inputs, started, stands-formed}
 use Rattle.partial.proofs.Wiring.start.Statement.{statement}
 use Rattle.partial.proofs.Wiring.start.Tie as tie
 
 returns : tie.Need-returns
-returns c = started (c .args .n) (c .pre)
+returns c = let r = started (c .args .n) (c .pre) in (r, stands-formed _ _ _ r)
 
 pub start-spec : {M : Type 1} → statement M
 start-spec =
