@@ -2,6 +2,8 @@
 
 use std::collections::BTreeMap;
 use std::fmt;
+use std::io::{self, Write};
+use std::thread;
 
 #[derive(Clone, Debug, Default)]
 pub struct Tally {
@@ -29,6 +31,18 @@ impl Tally {
         few.map(|&code| format!("{call}: code {code} seen {} times", self.seen(call, code)))
             .collect()
     }
+
+    /// Shows what was compared, and fails if a code was seen fewer than `floor`
+    /// times.
+    pub fn require(&self, wanted: &[(&'static str, &[u64])], floor: u64) {
+        // Not by `print!`, which a passing test keeps to itself: what was
+        // compared belongs in every log.
+        let mut out = io::stdout();
+        write!(out, "\n{self}").expect("standard output takes the tally");
+        let missing = wanted.iter().flat_map(|&(call, codes)| self.missing(call, codes, floor));
+        let missing: Vec<String> = missing.collect();
+        assert!(missing.is_empty(), "too few cases:\n{}", missing.join("\n"));
+    }
 }
 
 /// One line per call: its cases, then `code:count` for each code seen.
@@ -47,6 +61,24 @@ impl fmt::Display for Tally {
         }
         Ok(())
     }
+}
+
+/// Runs sweeps that are independent of each other, each in a thread and with a
+/// tally of its own. A difference that one of them finds ends the test.
+pub fn of_all<S, D>(sweeps: impl IntoIterator<Item = S>) -> Tally
+where
+    S: FnOnce() -> Result<Tally, D> + Send + 'static,
+    D: fmt::Display + Send + 'static,
+{
+    let runs: Vec<_> = sweeps.into_iter().map(thread::spawn).collect();
+    let mut tally = Tally::default();
+    for run in runs {
+        match run.join().expect("a sweep panicked") {
+            Ok(seen) => tally.join(&seen),
+            Err(difference) => panic!("the archive differs from the reference\n{difference}"),
+        }
+    }
+    tally
 }
 
 #[cfg(test)]

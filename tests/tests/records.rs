@@ -1,53 +1,33 @@
 //! The archive's calls on function records.
 
-use std::io::Write;
-use std::thread;
-
 use zap_tests::calls::{self, ARCHIVE};
 use zap_tests::cases::{FAULTS, READINGS, SUMMARIES, WRITINGS};
 use zap_tests::records::{sweeps, Trial};
 use zap_tests::records::{FAULT_EMPTY, FAULT_OF_F, FAULT_OF_G, READ, SUMMARY, WRITE};
 use zap_tests::reference::answer::Answer;
 use zap_tests::show::{self, hex};
-use zap_tests::tally::Tally;
+use zap_tests::tally;
 
 /// Each call gave each code that it can give at least so often.
 const FLOOR: u64 = 100;
 
 #[test]
 fn every_call_answers_as_the_reference() {
-    let tally = run_all_sweeps();
-    // Not by `print!`, which a passing test keeps to itself: what was compared
-    // belongs in every log.
-    let mut out = std::io::stdout();
-    write!(out, "\n{tally}").expect("standard output takes the tally");
-
-    let mut missing = vec![];
-    missing.extend(tally.missing(READ, &[0, 1, 2, 3, 4, 5, 6, 7, 8], FLOOR));
-    missing.extend(tally.missing(SUMMARY, &[0, 1, 2, 3, 4, 5, 6, 7, 8], FLOOR));
-    missing.extend(tally.missing(WRITE, &[0, 3, 4, 5, 6, 7, 18, 19], FLOOR));
-    missing.extend(tally.missing(FAULT_OF_F, &[5, 6, 7], FLOOR));
-    missing.extend(tally.missing(FAULT_OF_G, &[5, 6, 7], FLOOR));
-    missing.extend(tally.missing(FAULT_EMPTY, &[0, 1, 2, 3, 4, 8], FLOOR));
-    assert!(missing.is_empty(), "too few cases:\n{}", missing.join("\n"));
-}
-
-/// The sweeps are independent of each other, so each gets a thread and a tally.
-fn run_all_sweeps() -> Tally {
-    let runs = sweeps::ALL.map(|sweep| {
-        thread::spawn(move || {
+    let tally = tally::of_all(sweeps::ALL.map(|sweep| {
+        move || {
             let mut trial = Trial::new(ARCHIVE);
             sweep(&mut trial).map(|()| trial.tally)
-        })
-    });
-    let mut tally = Tally::default();
-    for run in runs {
-        match run.join().expect("a sweep panicked") {
-            Ok(seen) => tally.join(&seen),
-            Err(difference) => panic!("the archive differs from the reference\n{difference}"),
         }
-    }
-    tally
+    }));
+    let wanted: [(_, &[u64]); 6] = [
+        (READ, &[0, 1, 2, 3, 4, 5, 6, 7, 8]),
+        (SUMMARY, &[0, 1, 2, 3, 4, 5, 6, 7, 8]),
+        (WRITE, &[0, 3, 4, 5, 6, 7, 18, 19]),
+        (FAULT_OF_F, &[5, 6, 7]),
+        (FAULT_OF_G, &[5, 6, 7]),
+        (FAULT_EMPTY, &[0, 1, 2, 3, 4, 8]),
+    ];
+    tally.require(&wanted, FLOOR);
 }
 
 // The cases that 01 names, and some worked out by hand from its rules: neither

@@ -1,15 +1,12 @@
 //! The archive's call for dead pairs, and what 01 says of wirings.
 
-use std::io::Write;
-use std::thread;
-
 use zap_tests::calls;
 use zap_tests::cases::DEAD;
 use zap_tests::random::Random;
 use zap_tests::reference::agreement::Tables;
 use zap_tests::reference::wiring::{wirings, Wiring};
 use zap_tests::show::hex;
-use zap_tests::tally::Tally;
+use zap_tests::tally;
 use zap_tests::wirings::pairs::{any_pair, any_wiring, neighbour, Made};
 use zap_tests::wirings::{sweeps, Trial};
 use zap_tests::wirings::{AGREES, BAD_RECORDS, BAD_WIRING, DIFFERS};
@@ -20,38 +17,18 @@ const FLOOR: u64 = 100;
 
 #[test]
 fn the_call_answers_as_the_reference() {
-    let tally = run_all_sweeps();
-    // Not by `print!`, which a passing test keeps to itself: what was compared
-    // belongs in every log.
-    let mut out = std::io::stdout();
-    write!(out, "\n{tally}").expect("standard output takes the tally");
-
-    let every_n = [1, 2, 3, 4, 5, 6, 7, 8];
-    let mut missing = vec![];
-    for line in [NO_PAIRS, NOTHING, OF_ON_LIST, OF_OFF_LIST, AGREES, DIFFERS] {
-        missing.extend(tally.missing(line, &every_n, FLOOR));
-    }
-    missing.extend(tally.missing(BAD_RECORDS, &[1, 2, 3, 4, 5, 6, 7, 8, 9], FLOOR));
-    missing.extend(tally.missing(BAD_WIRING, &[8, 12, 13], FLOOR));
-    assert!(missing.is_empty(), "too few cases:\n{}", missing.join("\n"));
-}
-
-/// The sweeps are independent of each other, so each gets a thread and a tally.
-fn run_all_sweeps() -> Tally {
-    let runs = sweeps::ALL.map(|sweep| {
-        thread::spawn(move || {
+    let tally = tally::of_all(sweeps::ALL.map(|sweep| {
+        move || {
             let mut trial = Trial::new(calls::dead);
             sweep(&mut trial).map(|()| trial.tally)
-        })
-    });
-    let mut tally = Tally::default();
-    for run in runs {
-        match run.join().expect("a sweep panicked") {
-            Ok(seen) => tally.join(&seen),
-            Err(difference) => panic!("the archive differs from the reference\n{difference}"),
         }
-    }
-    tally
+    }));
+    let every_n: &[u64] = &[1, 2, 3, 4, 5, 6, 7, 8];
+    let accepted = [NO_PAIRS, NOTHING, OF_ON_LIST, OF_OFF_LIST, AGREES, DIFFERS];
+    let mut wanted: Vec<(_, &[u64])> = accepted.map(|line| (line, every_n)).into();
+    wanted.push((BAD_RECORDS, &[1, 2, 3, 4, 5, 6, 7, 8, 9]));
+    wanted.push((BAD_WIRING, &[8, 12, 13]));
+    tally.require(&wanted, FLOOR);
 }
 
 /// The cases that 01 names, and some worked out by hand from its rules: the
