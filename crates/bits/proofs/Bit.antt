@@ -91,6 +91,10 @@ pub bit-shl : (i k x : ℕ) → bit (k + i) (x * 2 ^ k) ≡ bit i x
 unfolding bit
 bit-shl i k x = ap (λ (n : ℕ). n % 2) (sym (shr-shr (x * 2 ^ k) k i) ∙ ap (λ (n : ℕ). n / 2 ^ i) (shl-shr x k))
 
+-- one bit, shifted within the width
+pub one-shifted : (w k : ℕ) → k < w → (1 * 2 ^ k) % 2 ^ w ≡ 2 ^ k
+one-shifted w k h = ap (λ (m : ℕ). m % 2 ^ w) (one-mul (2 ^ k)) ∙ mod-eq-of-lt (pow-lt h)
+
 -- the bits below a shift are 0
 pub bit-shl-low : (i k x : ℕ) → i < k → bit i (x * 2 ^ k) ≡ 0
 unfolding bit

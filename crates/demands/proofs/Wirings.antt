@@ -13,24 +13,16 @@ use lib.ListN.{length}
 use Rattle.rules.specs.Rules.{completions, follows}
 use Rattle.rules.proofs.Lists.{In, some-if}
 use Rattle.rules.proofs.Cut.{Reached, whole-passes}
-use Rattle.records.specs.Records.{inputs, record-fault}
-use Rattle.records.proofs.Cubes.{Bytes}
+use Rattle.records.specs.Records.{inputs}
 use Rattle.wirings.specs.Wirings.{straight, agrees}
 use Rattle.wirings.specs.Pairs.{Pair, pairs, first-dead}
+use Rattle.wirings.proofs.Agreement.{Accepted}
 use Rattle.wirings.proofs.Death.{some-dead, first-dead-is, first-dead-none, never-agrees, death}
 use Rattle.partial.specs.declared.Found.{Found}
 use Rattle.partial.specs.Partial.{prefix, Formed, found}
 use Rattle.partial.proofs.Rows.{found-some, found-none}
 use Rattle.partial.proofs.Wiring.first_dead.Kinds as first-dead-kinds
 use Rattle.partial.proofs.Wiring.first_dead.Reads as search
-
--- both records are accepted and have as many inputs
-pub record Accepted (f g : List ℕ) : Type 0 where
-  pub bytes-f : Bytes f
-  pub bytes-g : Bytes g
-  pub fine-f : record-fault f .code ≡ 0
-  pub fine-g : record-fault g .code ≡ 0
-  pub equal : inputs f ≡ inputs g
 
 module _ (κs : Lfts 2) (a : Dens κs first-dead-kinds.ps) (r : resT first-dead-kinds.r κs .Denot) (s : AtExit (endedOf 2 first-dead-kinds.ps first-dead-kinds.r) κs)
     (p : search.Post κs a r s) where
@@ -66,11 +58,11 @@ module _ (κs : Lfts 2) (a : Dens κs first-dead-kinds.ps) (r : resT first-dead-
     found-closes e k total =
         let x = found-some pair (ap (λ (o : Found). o .found) (sym is-found) ∙ e) in
         let y = first-dead-is n q f g w (x .0) (x .1) in
-        never-agrees q f g (ok .bytes-f) (ok .bytes-g) (ok .fine-f) (ok .fine-g) (ok .equal) k w (reached k total) (some-if _ (x .0) (pairs q f g) (y .0) (y .1))
+        never-agrees q f g ok k w (reached k total) (some-if _ (x .0) (pairs q f g) (y .0) (y .1))
 
     -- where none is found under a whole wiring, it agrees
     pub none-agrees : r .found ≡ false → length w ≡ n → agrees q f g w ≡ true
     none-agrees e whole =
         let none = found-none pair (ap (λ (o : Found). o .found) (sym is-found) ∙ e) in
-        whole-passes (straight n) n (agrees q f g) (some-dead n q f g) (death q f g (ok .bytes-f) (ok .bytes-g) (ok .fine-f) (ok .fine-g) (ok .equal)) w
+        whole-passes (straight n) n (agrees q f g) (some-dead n q f g) (death q f g ok) w
         (reached 0 (omega (arith, whole))) (first-dead-none n q f g w none)

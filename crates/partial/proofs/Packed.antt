@@ -6,12 +6,9 @@ use native.Mathlib.Nat.{mul-assoc, mul-comm, div-one}
 use native.Mathlib.Omega.{arith}
 use lib.ListN.{length, getD}
 use lib.Pow.{pow-add, shr-shr}
+use Rattle.records.proofs.Cubes.{Bytes}
 use Rattle.partial.specs.Partial.{packed, unpacked}
 use Rattle.rules.specs.Rules.{_adding_}
-
--- each is a byte
-abbrev pub Bytes : List ℕ → Type 0
-Bytes w = (i : ℕ) → getD w i 0 < 256
 
 -- eight bits more
 byte-up : (k : ℕ) → 2 ^ (8 * suc k) ≡ 256 * 2 ^ (8 * k)

@@ -5,24 +5,25 @@ use mathlib.Core.Path.{_≡_, refl, sym, ap, ap₂, _∙_, subst, subst₂}
 use mathlib.Core.Bool.{Bool, true, false, cond, not, _&&_, _||_, and-true}
 use mathlib.Core.List.{List, [], _∷_}
 use mathlib.Core.Logic.{⊎-elim}
-use native.Mathlib.Nat.{le-trans, lt-of-lt-of-le, one-mul, mod-eq-of-lt}
+use native.Mathlib.Nat.{le-trans, lt-of-lt-of-le, mod-eq-of-lt}
 use native.Mathlib.Omega.{arith}
 use borrow.Author.Tests.{not-true, leb-true, le-leb, lt-leb, le-ltb, eqb-false, ne-eqb}
 use lib.Bits.{bitAnd, bitXor, and-mask, and-high, xor-zero-r, xor-add-and}
-use lib.Dec.{eqb, ltb, leb, lit<}
+use lib.Dec.{eqb, ltb, leb}
 use lib.ListN.{length, getD, length-append, List·getD-eq-default}
-use lib.Pow.{pow-lt, pow-mono, shl-exact}
+use lib.Pow.{pow-mono}
 use Rattle.bits.specs.Bits.{bit, mask}
 use Rattle.bits.proofs.Tests.{both, both-left, both-right, same-test, eqb-comm, below-or-not, not-passed}
-use Rattle.bits.proofs.Bit.{bit-le}
+use Rattle.bits.proofs.Bit.{bit-le, one-shifted}
 use Rattle.bits.proofs.Mask.{mask-has, mask-above, mask-same, mask-drop, mask-low}
 use Rattle.rules.specs.Lists.{some-in}
 use Rattle.rules.specs.Rules.{follows, _adding_}
+use Rattle.records.proofs.Cubes.{Bytes}
 use Rattle.wirings.specs.Wirings.{input-of, inverted, straight, is-choice, uses, free-choice}
 use Rattle.wirings.proofs.Choices.{choice-input, choice-byte, choice-below, plain-choice, place-next, free-count, uses-adding, placed-choice, placed-input}
 use Rattle.partial.specs.declared.Wiring.{Wiring}
 use Rattle.partial.specs.Partial.{packed, unplaced, unused, partial, prefix, Stands, Formed, may-place, located}
-use Rattle.partial.proofs.Packed.{Bytes, packed-lt, packed-add, packed-at, unpacked-packed}
+use Rattle.partial.proofs.Packed.{packed-lt, packed-add, packed-at, unpacked-packed}
 
 module _ (n : ℕ) (few : n ≤ 8) (w : List ℕ) (allowed : follows (straight n) [] w ≡ true) where
   pub placed-bytes : Bytes w
@@ -92,16 +93,10 @@ module _ (r : Wiring) (b : ℕ) (s : Formed r) where
 
 -- ---- the empty one
 
-pub shifted : (j : ℕ) → j < 8 → (1 * 2 ^ j) % 256 ≡ 2 ^ j
-shifted j h = ap (λ (m : ℕ). m % 256) (one-mul (2 ^ j)) ∙ mod-eq-of-lt (pow-lt h)
-
-pub all-inputs : (n : ℕ) → n ≤ 8 → (1 * 2 ^ n) % 2 ^ 32 ≡ 2 ^ n
-all-inputs n h = shl-exact 1 n 32 (lit< tt) (omega arith) ∙ one-mul (2 ^ n)
-
 pub started : (n : ℕ) → n ≤ 8 → let all = (1 * 2 ^ n) % 2 ^ 32 - 1 in Stands (record { n = n; depth = 0; unplaced = all; free = all; choices = 0 }) n []
 unfolding partial packed some-in follows
 started n h =
-    let low : (1 * 2 ^ n) % 2 ^ 32 - 1 ≡ mask 8 (λ i. ltb i n) = ap (λ (m : ℕ). m - 1) (all-inputs n h) ∙ mask-low 8 n h in
+    let low : (1 * 2 ^ n) % 2 ^ 32 - 1 ≡ mask 8 (λ i. ltb i n) = ap (λ (m : ℕ). m - 1) (one-shifted 32 n (omega arith)) ∙ mask-low 8 n h in
     let unplaced-is = low ∙ mask-same 8 (λ i. ltb i n) (unplaced n []) (λ i l. sym (ap (λ (t : Bool). ltb i n && t) (le-leb 0 i (omega arith)) ∙ and-true (ltb i n))) in
     let unused-is = low ∙ mask-same 8 (λ i. ltb i n) (unused n []) (λ i l. sym (and-true (ltb i n))) in
     record { is = λ i. record { n = n; depth = 0; unplaced = unplaced-is i; free = unused-is i; choices = 0 }; few = h; allowed = refl }
@@ -241,7 +236,7 @@ module _ (r : Wiring) (b : ℕ) (s : Formed r) (may : may-place r b ≡ true) wh
   unplaced-more =
       let here : length w < 8 = omega (arith, room, s .few) in
       ap₂ (λ (m d : ℕ). bitAnd m (255 - (1 * 2 ^ d) % 256)) (stands-unplaced r (r .n) w s) (stands-depth r (r .n) w s)
-      ∙ ap (λ (m : ℕ). bitAnd (mask 8 (unplaced (r .n) w)) (255 - m)) (shifted (length w) here)
+      ∙ ap (λ (m : ℕ). bitAnd (mask 8 (unplaced (r .n) w)) (255 - m)) (one-shifted 8 (length w) here)
       ∙ mask-drop 8 (unplaced (r .n) w) (length w) here
       ∙ mask-same 8 _ (unplaced (r .n) more) (λ i l. past (ltb i (r .n)) (length w) (length more) i (length-append w (b ∷ [])))
 
@@ -249,7 +244,7 @@ module _ (r : Wiring) (b : ℕ) (s : Formed r) (may : may-place r b ≡ true) wh
   unused-more =
       let here : input-of b < 8 = omega (arith, and-mask b 4, input-room) in
       ap₂ (λ (m j : ℕ). bitAnd m (255 - (1 * 2 ^ j) % 256)) (stands-free r (r .n) w s) (and-mask b 4)
-      ∙ ap (λ (m : ℕ). bitAnd (mask 8 (unused (r .n) w)) (255 - m)) (shifted (input-of b) here)
+      ∙ ap (λ (m : ℕ). bitAnd (mask 8 (unused (r .n) w)) (255 - m)) (one-shifted 8 (input-of b) here)
       ∙ mask-drop 8 (unused (r .n) w) (input-of b) here
       ∙ mask-same 8 _ (unused (r .n) more) (λ j l. but (ltb j (r .n)) w b j)
 

@@ -45,6 +45,14 @@ quotient-zero x n e = subst (λ (m : ℕ). x < m) (one-mul (2 ^ n)) (div-lt-iff-
 or-ge : (a b : ℕ) → a ≤ bitOr a b
 or-ge a b = omega (arith, or-add-and a b, and-le-r a b)
 
+-- a cube of bytes that names only inputs below n, and none in both masks
+pub record Clean (n P N : ℕ) : Type 0 where
+  pub pos-byte : P < 2 ^ 8
+  pub neg-byte : N < 2 ^ 8
+  pub pos : P < 2 ^ n
+  pub neg : N < 2 ^ n
+  pub apart : bitAnd P N ≡ 0
+
 module _ (n P N : ℕ) (p : P < 2 ^ 8) (m : N < 2 ^ 8) where
   names-beyond : any 8 (λ i. leb n i && cube-names P N i) ≡ not (eqb (bitOr P N / 2 ^ n) 0)
   names-beyond =
@@ -66,19 +74,15 @@ module _ (n P N : ℕ) (p : P < 2 ^ 8) (m : N < 2 ^ 8) where
   unfolding cube-code
   code-none h k = simp (names-beyond, in-both, eq-eqb _ _ h, eq-eqb _ _ k)
 
-  -- a cube with no code names only inputs below n, and none in both masks
-  pub record Clean : Type 0 where
-    pub pos : P < 2 ^ n
-    pub neg : N < 2 ^ n
-    pub apart : bitAnd P N ≡ 0
-
-  pub code-clean : cube-code n P N ≡ 0 → Clean
+  pub code-clean : cube-code n P N ≡ 0 → Clean n P N
   code-clean e = go (eqb (bitOr P N / 2 ^ n) 0) (eqb (bitAnd P N) 0) refl refl
     where
-      go : (t u : Bool) → eqb (bitOr P N / 2 ^ n) 0 ≡ t → eqb (bitAnd P N) 0 ≡ u → Clean
-      go true true p q =
-          let below : bitOr P N < 2 ^ n = quotient-zero _ n (eqb-true _ _ p) in
+      go : (t u : Bool) → eqb (bitOr P N / 2 ^ n) 0 ≡ t → eqb (bitAnd P N) 0 ≡ u → Clean n P N
+      go true true below-n q =
+          let below : bitOr P N < 2 ^ n = quotient-zero _ n (eqb-true _ _ below-n) in
           record {
+            pos-byte = p;
+            neg-byte = m;
             pos = lt-of-le-of-lt (or-ge P N) below;
             neg = lt-of-le-of-lt (le-trans (or-ge N P) (le-of-eq (or-comm N P))) below;
             apart = eqb-true _ _ q;

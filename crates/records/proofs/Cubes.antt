@@ -16,7 +16,7 @@ use Rattle.answers.specs.declared.Fault.{Fault}
 use Rattle.answers.specs.Answers.{fault, sound}
 use Rattle.records.specs.Records.{inputs, on-count, off-count, cubes-at, off-at, on-list, off-list, cube-code, clash-code, first-fault, cubes-fault, clash-fault}
 use Rattle.records.proofs.Frame.{Framed}
-use Rattle.records.proofs.Codes.{code-clean}
+use Rattle.records.proofs.Codes.{Clean, code-clean}
 
 -- ---- a list has no fault exactly when each cube has none
 
@@ -49,11 +49,11 @@ first-same code code′ (P ∷ N ∷ l) at e =
 -- ---- the width of the shared-pattern test: for clean cubes of n inputs, patterns of n inputs and of eight say the same
 
 abbrev pub CleanList : ℕ → List ℕ → Type 0
-CleanList n l = Each (λ P N. (P < 2 ^ 8) × (N < 2 ^ 8) × (P < 2 ^ n)) l
+CleanList n l = Each (Clean n) l
 
 pub clean-list : (n : ℕ) (l : List ℕ) (at : ℕ) → ((i : ℕ) → getD l i 0 < 2 ^ 8) → first-fault (cube-code n) l at .code ≡ 0 → CleanList n l
 clean-list n l at b e =
-    each-map _ _ (λ P N h. (h .0, h .1, code-clean n P N (h .0) (h .1) (h .2) .pos)) l (each-bytes _ l b (first-each (cube-code n) l at e))
+    each-map _ _ (λ P N h. code-clean n P N (h .0) (h .1) (h .2)) l (each-bytes _ l b (first-each (cube-code n) l at e))
 
 pub clash-width : (n : ℕ) (on off : List ℕ) (at : ℕ) → CleanList n on → CleanList n off → first-fault (clash-code n off) on at ≡ first-fault (clash-code 8 off) on at
 unfolding clash-code
@@ -63,7 +63,7 @@ clash-width n on off at c d =
     (λ P N p.
     ap {B = ℕ} (λ (t : Bool). cond t 7 0)
     (some-same _ _ off
-    (each-map _ _ (λ P′ N′ q. share-masks P N P′ N′ n (p .2) (q .2) (p .1) (q .1) ∙ sym (share-masks P N P′ N′ 8 (p .0) (q .0) (p .1) (q .1))) off d)))
+    (each-map _ _ (λ P′ N′ q. share-masks P N P′ N′ n (p .pos) (q .pos) (p .neg-byte) (q .neg-byte) ∙ sym (share-masks P N P′ N′ 8 (p .pos-byte) (q .pos-byte) (p .neg-byte) (q .neg-byte))) off d)))
     on c)
 
 -- ---- the two lists of a record: what holds of each of its cubes holds of each cube of either list
@@ -85,6 +85,9 @@ module _ (Q : ℕ → ℕ → Type 0) (s : List ℕ) (each : Each Q (drop (cubes
 abbrev pub Bytes : List ℕ → Type 0
 Bytes l = (i : ℕ) → getD l i 0 < 2 ^ 8
 
+pub all-clean : (s : List ℕ) → Bytes s → cubes-fault s .code ≡ 0 → CleanList (inputs s) (drop (cubes-at s) s)
+all-clean s bytes e = clean-list (inputs s) (drop 5 s) 5 (λ i. subst (λ (b : ℕ). b < 2 ^ 8) (sym (getD-drop 5 s i 0)) (bytes (5 + i))) e
+
 module _ (s : List ℕ) (framed : Framed s) where
   -- what stands before the off list
   pub front-long : length (take (off-at s) s) ≡ off-at s
@@ -98,14 +101,11 @@ module _ (s : List ℕ) (framed : Framed s) where
       ∙ drop-at (take 5 s) (take (2 * on-count s) (drop 5 s)) 5 (length-take-le 5 s (omega arith))
 
   module _ (bytes : Bytes s) (cubes : cubes-fault s .code ≡ 0) where
-    all-clean : CleanList (inputs s) (drop 5 s)
-    all-clean = clean-list (inputs s) (drop 5 s) 5 (λ i. subst (λ (b : ℕ). b < 2 ^ 8) (sym (getD-drop 5 s i 0)) (bytes (5 + i))) cubes
-
     -- the code tests eight inputs, and a part of the record that ends at the off list
     pub clash-by-code : first-fault (clash-code 8 (off-list s)) (drop (cubes-at s) (take (off-at s) s)) (cubes-at s) ≡ clash-fault s
     clash-by-code =
         ap (λ (on : List ℕ). first-fault (clash-code 8 (off-list s)) on 5) on-front
-        ∙ sym (clash-width (inputs s) (on-list s) (off-list s) 5 (on-each _ s all-clean) (off-each _ s all-clean))
+        ∙ sym (clash-width (inputs s) (on-list s) (off-list s) 5 (on-each _ s (all-clean s bytes cubes)) (off-each _ s (all-clean s bytes cubes)))
 
 -- ---- code 7: some on cube shares a pattern with some off cube exactly when some pattern is both on and off
 

@@ -1,7 +1,7 @@
 -- Agreement on patterns is separation of pairs. The idea: carried over by a wiring, a cube of f is a cube of g's inputs that holds
 -- y exactly where the cube holds the x read at y; and two cubes, neither of them empty, share a pattern exactly where no literal
 -- of the one is the opposite of a literal of the other (lemma 2.1). So a wiring agrees exactly when it separates every pair.
-use Prim.Native.Nat.{ℕ, zero, suc, _+_, _-_, _^_, _≤_, _<_}
+use Prim.Native.Nat.{ℕ, zero, suc, _-_, _^_, _≤_, _<_}
 use mathlib.Core.Path.{_≡_, refl, sym, ap, ap₂, _∙_, subst}
 use mathlib.Core.Bool.{Bool, true, false, cond, not, _&&_, _||_, false≢true, Bool·not-not, or-false, and-true, and-false, and-comm}
 use mathlib.Core.List.{List, [], _∷_}
@@ -11,9 +11,8 @@ use native.Mathlib.Omega.{arith}
 use borrow.Author.Tests.{eqb-true, eq-eqb, ne-eqb, not-true}
 use lib.Bits.{bitAnd, bitOr, and-le-l, and-le-r, or-lt}
 use lib.Dec.{eqb}
-use lib.ListN.{length, getD, drop}
+use lib.ListN.{length, getD}
 use lib.Pow.{pow-mono}
-use lib.Seq.{getD-drop}
 use Rattle.bits.specs.Bits.{bit, has, mask, number, any, every}
 use Rattle.bits.proofs.Tests.{both, both-left, both-right, same-test, decide, below-or-not}
 use Rattle.bits.proofs.Below.{any-at, any-if, any-none, any-same, any-or}
@@ -21,14 +20,13 @@ use Rattle.bits.proofs.Bit.{bit-le, bit-above, has-or, has-and, has-zero, bits-
 use Rattle.bits.proofs.Mask.{mask-lt, mask-has, narrow-mask}
 use Rattle.cubes.specs.Cubes.{cube-holds, cubes-share, some-holds}
 use Rattle.cubes.proofs.Masks.{holds-at, holds-if, share-masks}
-use Rattle.cubes.proofs.Lists.{Each, each-map, each-bytes, some-same, lists-meet}
+use Rattle.cubes.proofs.Lists.{each-map, some-same, lists-meet}
 use Rattle.rules.specs.Lists.{each-in}
 use Rattle.rules.specs.Rules.{follows}
 use Rattle.rules.proofs.Lists.{some-if, each-some, getD-in}
-use Rattle.records.specs.Records.{inputs, on-list, off-list, cubes-at, record-fault}
+use Rattle.records.specs.Records.{inputs, on-list, off-list, record-fault}
 use Rattle.records.proofs.Frame.{record-sound}
-use Rattle.records.proofs.Cubes.{Bytes, first-each, on-each, off-each}
-use Rattle.records.proofs.Codes.{code-clean}
+use Rattle.records.proofs.Cubes.{Bytes, CleanList, all-clean, on-each, off-each}
 use Rattle.wirings.specs.Wirings.{input-of, inverted, uses, straight, apart, served, read-at, disagree-at, agrees}
 use Rattle.wirings.specs.Pairs.{asks-one, asks-zero, separates, lands, carried-pos, carried-neg, side, against, pairs, of-pair}
 use Rattle.wirings.proofs.Choices.{placed-input, placed-apart}
@@ -258,20 +256,24 @@ module _ (n : ℕ) (small : n ≤ 8) (w : List ℕ) (allowed : follows (straight
 
 -- ---- accepted records
 
--- a cube of n inputs that is not empty
-abbrev Proper : ℕ → ℕ → ℕ → Type 0
-Proper n P N = (P < 2 ^ n) × (N < 2 ^ n) × (bitAnd P N ≡ 0)
+-- both records are accepted and have as many inputs
+pub record Accepted (f g : List ℕ) : Type 0 where
+  pub bytes-f : Bytes f
+  pub bytes-g : Bytes g
+  pub fine-f : record-fault f .code ≡ 0
+  pub fine-g : record-fault g .code ≡ 0
+  pub equal : inputs f ≡ inputs g
 
--- each cube of an accepted record is such
-proper-side : (s : ℕ) (f : List ℕ) → Bytes f → record-fault f .code ≡ 0 → Each (Proper (inputs f)) (side s f)
+-- and at most eight
+pub few-inputs : (f g : List ℕ) → Accepted f g → inputs g ≤ 8
+few-inputs f g ok = record-sound g (ok .fine-g) .framed .header .n-byte .most
+
+-- each cube of an accepted record is clean; above all, it is not empty
+clean-side : (s : ℕ) (f : List ℕ) → Bytes f → record-fault f .code ≡ 0 → CleanList (inputs f) (side s f)
 unfolding side
-proper-side s f bytes fine =
-    elim (eqb s 0) as (λ t. Each (Proper (inputs f)) (cond t (on-list f) (off-list f))) [ true ↦ on-each _ f proper | false ↦ off-each _ f proper ]
-  where
-    proper : Each (Proper (inputs f)) (drop (cubes-at f) f)
-    proper =
-        each-map _ _ (λ P N h. let c = code-clean (inputs f) P N (h .0) (h .1) (h .2) in (c .pos, c .neg, c .apart)) (drop 5 f)
-        (each-bytes _ (drop 5 f) (λ i. subst (λ (b : ℕ). b < 2 ^ 8) (sym (getD-drop 5 f i 0)) (bytes (5 + i))) (first-each _ _ _ (record-sound f fine .cubes)))
+clean-side s f bytes fine =
+    let clean = all-clean f bytes (record-sound f fine .cubes) in
+    elim (eqb s 0) as (λ t. CleanList (inputs f) (cond t (on-list f) (off-list f))) [ true ↦ on-each _ f clean | false ↦ off-each _ f clean ]
 
 -- some cube of f's list s holds x, and some cube of the list of g against it holds y: f and g disagree where that is so of a list
 abbrev both-hold : ℕ → List ℕ → List ℕ → ℕ → ℕ → ℕ → Bool
@@ -284,10 +286,10 @@ disagree-is (suc q) f g x y = simp (ne-eqb (suc q) 0 (λ e. omega (arith, e)))
 
 -- a wiring of accepted records agrees, on patterns, exactly when it separates every pair to be kept apart, for q = 0 and q = 1 (any
 -- other q counts as 1)
-pub agrees-separates : (q : ℕ) (f g : List ℕ) → Bytes f → Bytes g → record-fault f .code ≡ 0 → record-fault g .code ≡ 0 → inputs f ≡ inputs g
-    → (w : List ℕ) → follows (straight (inputs g)) [] w ≡ true → length w ≡ inputs g → agrees q f g w ≡ each-in (of-pair q f g (separates w)) (pairs q f g)
+pub agrees-separates : (q : ℕ) (f g : List ℕ) → Accepted f g → (w : List ℕ) → follows (straight (inputs g)) [] w ≡ true → length w ≡ inputs g
+    → agrees q f g w ≡ each-in (of-pair q f g (separates w)) (pairs q f g)
 unfolding agrees
-agrees-separates q f g bytes-f bytes-g fine-f fine-g equal w allowed whole =
+agrees-separates q f g ok w allowed whole =
     ap not
     (any-same _ _ (2 ^ n) (λ y _. disagree-is q f g (read-at w y) y)
     ∙ sym (any-or (λ y. both-hold q f g 0 (read-at w y) y) (λ y. both-hold q f g 1 (read-at w y) y) (2 ^ n))
@@ -302,11 +304,12 @@ agrees-separates q f g bytes-f bytes-g fine-f fine-g equal w allowed whole =
     list s =
         let l = side s f in
         let m = side (against q s) g in
-        let small = record-sound g fine-g .framed .header .n-byte .most in
         sym (lists-meet (2 ^ n) (read-at w) l m)
         ∙ some-same _ _ l
         (each-map _ _
         (λ P N c.
         some-same _ _ m
-        (each-map _ _ (λ P′ N′ d. lemma-2-1 n small w allowed whole P N P′ N′ (c .0) (c .1) (d .0) (d .1) (c .2) (d .2)) m (proper-side (against q s) g bytes-g fine-g)))
-        l (subst (λ (k : ℕ). Each (Proper k) l) equal (proper-side s f bytes-f fine-f)))
+        (each-map _ _
+        (λ P′ N′ d. lemma-2-1 n (few-inputs f g ok) w allowed whole P N P′ N′ (c .pos) (c .neg) (d .pos) (d .neg) (c .apart) (d .apart))
+        m (clean-side (against q s) g (ok .bytes-g) (ok .fine-g))))
+        l (subst (λ (k : ℕ). CleanList k l) (ok .equal) (clean-side s f (ok .bytes-f) (ok .fine-f))))

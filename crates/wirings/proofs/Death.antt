@@ -16,14 +16,13 @@ use Rattle.rules.specs.Lists.{run, upto, some-in, each-in}
 use Rattle.rules.specs.Rules.{completions, follows}
 use Rattle.rules.proofs.Lists.{In, in-map, map-in, in-flat, flat-in, some-at, some-if, some-same, each-at, each-some, first-exists, first-found, in-run, run-in, AfterNone, first-after}
 use Rattle.rules.proofs.Cut.{Reached, Death, whole-reached}
-use Rattle.records.specs.Records.{inputs, on-count, off-count, cubes-at, off-at, on-list, off-list, record-fault}
-use Rattle.records.proofs.Frame.{Framed, record-sound}
-use Rattle.records.proofs.Cubes.{Bytes}
+use Rattle.records.specs.Records.{inputs, on-count, off-count, cubes-at, off-at, on-list, off-list}
+use Rattle.records.proofs.Frame.{Framed}
 use Rattle.wirings.specs.Wirings.{straight, wirings, phase, choices, agrees, agreeing}
 use Rattle.wirings.specs.Pairs.{separates, dead, cubes-in, side, against, Pair, pairs, of-pair, first-dead}
 use Rattle.wirings.proofs.Dead.{dead-exactly, dead-whole}
 use Rattle.wirings.proofs.Indexed.{of-cube, of-side}
-use Rattle.wirings.proofs.Agreement.{agrees-separates}
+use Rattle.wirings.proofs.Agreement.{Accepted, few-inputs, agrees-separates}
 
 -- ---- the pairs: s, u, v is one exactly when s is 0 or 1, f's list s has a cube u, and the list of g against it a cube v
 
@@ -106,10 +105,10 @@ wiring-reached n v i =
 
 -- ---- death, for accepted records
 
-module _ (q : ℕ) (f g : List ℕ) (bytes-f : Bytes f) (bytes-g : Bytes g) (fine-f : record-fault f .code ≡ 0) (fine-g : record-fault g .code ≡ 0) (equal : inputs f ≡ inputs g) where
+module _ (q : ℕ) (f g : List ℕ) (ok : Accepted f g) where
   -- a whole wiring agrees exactly when it separates every pair
   as-separates : (w : List ℕ) → Reached (straight (inputs g)) (inputs g) 0 w → agrees q f g w ≡ each-in (of-pair q f g (separates w)) (pairs q f g)
-  as-separates w r = agrees-separates q f g bytes-f bytes-g fine-f fine-g equal w (r .allowed) (omega (arith, r .total))
+  as-separates w r = agrees-separates q f g ok w (r .allowed) (omega (arith, r .total))
 
   -- of choices with a dead pair no completion agrees
   pub never-agrees : (k : ℕ) (w : List ℕ) → Reached (straight (inputs g)) (inputs g) k w → some-dead (inputs g) q f g w ≡ true
@@ -121,7 +120,7 @@ module _ (q : ℕ) (f g : List ℕ) (bytes-f : Bytes f) (bytes-g : Bytes g) (fin
       let p = x .0 in
       let whole = whole-reached (straight n) n k w r v i in
       let gone : of-pair q f g (dead n w) p ≡ not (some-in (λ v. of-pair q f g (separates v) p) (completions (straight n) k w)) =
-      dead-exactly n (omega (arith, record-sound g fine-g .framed .header .n-byte .most)) k w (r .allowed) (r .total) _ _ _ _
+      dead-exactly n (omega (arith, few-inputs f g ok)) k w (r .allowed) (r .total) _ _ _ _
       in
       not-passed (agrees q f g v) (λ e.
       let parted = each-at (of-pair q f g (separates v)) p (pairs q f g) (sym (as-separates v whole) ∙ e) (x .1) in
@@ -139,7 +138,5 @@ module _ (q : ℕ) (f g : List ℕ) (bytes-f : Bytes f) (bytes-g : Bytes g) (fin
   death = record { dies = never-agrees; shows = whole-dead }
 
 -- a wiring of the list agrees exactly when it separates every pair
-pub agreeing-separates : (f g : List ℕ) → Bytes f → Bytes g → record-fault f .code ≡ 0 → record-fault g .code ≡ 0 → inputs f ≡ inputs g
-    → (v : List ℕ) → In v (wirings (inputs g)) → agreeing f g v ≡ each-in (of-pair (phase v) f g (separates (choices v))) (pairs (phase v) f g)
-agreeing-separates f g bytes-f bytes-g fine-f fine-g equal v i =
-    as-separates (phase v) f g bytes-f bytes-g fine-f fine-g equal (choices v) (wiring-reached (inputs g) v i)
+pub agreeing-separates : (f g : List ℕ) → Accepted f g → (v : List ℕ) → In v (wirings (inputs g)) → agreeing f g v ≡ each-in (of-pair (phase v) f g (separates (choices v))) (pairs (phase v) f g)
+agreeing-separates f g ok v i = as-separates (phase v) f g ok (choices v) (wiring-reached (inputs g) v i)

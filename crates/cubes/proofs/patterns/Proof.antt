@@ -4,13 +4,13 @@ use mathlib.Core.Path.{_≡_, _∙_, ap, ap₂, refl}
 use mathlib.Core.Bool.{Bool, true, false, cond}
 use mathlib.Core.List.{List}
 use borrow.Author.Needs.{needs}
-use native.Mathlib.Nat.{le-trans, le-of-eq, one-mul, mod-eq-of-lt}
+use native.Mathlib.Nat.{le-trans, le-of-eq, mod-eq-of-lt}
 use native.Mathlib.Numerals.{add-one}
 use native.Mathlib.Omega.{arith}
-use lib.Dec.{lit<}
-use lib.Pow.{pow-mono, shl-exact}
+use lib.Pow.{pow-mono}
 use mir.Val.{boolByte}
 use Rattle.bits.specs.Bits.{count}
+use Rattle.bits.proofs.Bit.{one-shifted}
 use Rattle.cubes.specs.Cubes.{some-holds, patterns-held}
 use Rattle.cubes.proofs.patterns.Statement.{statement}
 use Rattle.cubes.proofs.patterns.Tie as tie
@@ -23,13 +23,11 @@ record Counted (cubes : List ℕ) (n end x held : ℕ) : Type 0 where
   fits : held ≤ x
   so-far : held ≡ count x (some-holds cubes)
 
--- the code's shift is the power
-shifted : (n : ℕ) → n ≤ 8 → (1 * 2 ^ n) % 2 ^ 32 ≡ 2 ^ n
-shifted n h = shl-exact 1 n 32 (lit< tt) (omega arith) ∙ one-mul (2 ^ n)
-
 starts : (cubes : List ℕ) (n : ℕ) → n ≤ 8 → Counted cubes n ((1 * 2 ^ n) % 2 ^ 32) 0 0
 unfolding count
-starts cubes n h = record { all = shifted n h; few = le-trans (le-of-eq (shifted n h)) (pow-mono h); within = omega arith; fits = omega arith; so-far = refl }
+starts cubes n h =
+    let shifted = one-shifted 32 n (omega arith) in
+    record { all = shifted; few = le-trans (le-of-eq shifted) (pow-mono h); within = omega arith; fits = omega arith; so-far = refl }
 
 byte-le : (t : Bool) → boolByte t ≤ 1
 byte-le true = omega arith

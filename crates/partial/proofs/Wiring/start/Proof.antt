@@ -2,7 +2,8 @@
 use native.Mathlib.Omega.{arith}
 use borrow.Author.Needs.{needs}
 use lib.Pow.{pow-pos, pow-mono}
-use Rattle.partial.proofs.Standing.{all-inputs, started, stands-formed}
+use Rattle.bits.proofs.Bit.{one-shifted}
+use Rattle.partial.proofs.Standing.{started, stands-formed}
 use Rattle.partial.proofs.Wiring.start.Statement.{statement}
 use Rattle.partial.proofs.Wiring.start.Tie as tie
 
@@ -14,6 +15,6 @@ start-spec =
     tie.close
     (tie.spec
     (λ c. search needs)
-    (λ c. omega (arith, all-inputs (c .args .n) (c .pre), pow-pos (c .args .n)))
-    (λ c. omega (arith, all-inputs (c .args .n) (c .pre), pow-mono (c .pre)))
+    (λ c. omega (arith, one-shifted 32 (c .args .n) (omega (arith, c .pre)), pow-pos (c .args .n)))
+    (λ c. omega (arith, one-shifted 32 (c .args .n) (omega (arith, c .pre)), pow-mono (c .pre)))
     returns)
