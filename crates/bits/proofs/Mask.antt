@@ -36,6 +36,13 @@ module _ (k : ℕ) (t : ℕ → Bool) where
   pub mask-above : (i : ℕ) → k ≤ i → has (mask k t) i ≡ false
   mask-above i h = ap (λ (b : ℕ). eqb b 1) (bit-above i k mask-lt h)
 
+  -- at any number: it is below the width, and passes
+  pub mask-at : (i : ℕ) → has (mask k t) i ≡ ltb i k && t i
+  mask-at i =
+      ⊎-elim (λ (h : i < k). mask-has i h ∙ sym (ap (λ (b : Bool). b && t i) (lt-ltb i k h)))
+      (λ (h : k ≤ i). mask-above i h ∙ sym (ap (λ (b : Bool). b && t i) (le-ltb i k h)))
+      (below-or-not i k)
+
   -- the only number below 2^k with these bits
   pub mask-is : (x : ℕ) → x < 2 ^ k → ((i : ℕ) → i < k → has x i ≡ t i) → x ≡ mask k t
   mask-is x h f = bits-eq k x (mask k t) h mask-lt (λ i l. sym (counted x i) ∙ ap {B = ℕ} (λ (b : Bool). cond b 1 0) (f i l) ∙ sym (mask-bit i l))
@@ -74,27 +81,20 @@ has-not k x i h l = go (bit i (2 ^ k - 1 - x)) (bit i x) (bit-not k i x h l)
     go (suc zero) b e = sym (ap not (ne-eqb b 1 (λ q. omega arith)))
     go (suc (suc a)) b e = absurd (omega (arith, e))
 
-module _ (k : ℕ) (t : ℕ → Bool) (j : ℕ) (h : j < k) where
-  -- bit j is added if u says so
-  pub mask-add : (u : Bool) → bitOr (mask k t) (cond u (2 ^ j) 0) ≡ mask k (λ i. t i || eqb i j && u)
-  mask-add u =
-      mask-is k (λ i. t i || eqb i j && u) (bitOr (mask k t) (cond u (2 ^ j) 0)) (or-lt k (mask k t) (cond u (2 ^ j) 0) (mask-lt k t) (flag-lt u k j h))
-      (λ i l. has-or (mask k t) (cond u (2 ^ j) 0) i ∙ ap₂ _||_ (mask-has k t i l) (has-flag u j i))
+-- bit j is added if u says so
+pub mask-add : (k : ℕ) (t : ℕ → Bool) (j : ℕ) → j < k → (u : Bool) → bitOr (mask k t) (cond u (2 ^ j) 0) ≡ mask k (λ i. t i || eqb i j && u)
+mask-add k t j h u =
+    mask-is k (λ i. t i || eqb i j && u) (bitOr (mask k t) (cond u (2 ^ j) 0)) (or-lt k (mask k t) (cond u (2 ^ j) 0) (mask-lt k t) (flag-lt u k j h))
+    (λ i l. has-or (mask k t) (cond u (2 ^ j) 0) i ∙ ap₂ _||_ (mask-has k t i l) (has-flag u j i))
 
-  -- bit j is taken away
-  pub mask-drop : bitAnd (mask k t) (2 ^ k - 1 - 2 ^ j) ≡ mask k (λ i. t i && not (eqb i j))
-  mask-drop =
-      mask-is k (λ i. t i && not (eqb i j)) (bitAnd (mask k t) (2 ^ k - 1 - 2 ^ j)) (lt-of-le-of-lt (and-le-l (mask k t) (2 ^ k - 1 - 2 ^ j)) (mask-lt k t))
-      (λ i l. has-and (mask k t) (2 ^ k - 1 - 2 ^ j) i ∙ ap₂ _&&_ (mask-has k t i l) (has-not k (2 ^ j) i (pow-lt h) l ∙ ap not (has-pow j i)))
+-- bit j is taken away, in a word of w bits
+pub mask-drop : (w k : ℕ) → k ≤ w → (t : ℕ → Bool) (j : ℕ) → j < w → bitAnd (mask k t) (2 ^ w - 1 - 2 ^ j) ≡ mask k (λ i. t i && not (eqb i j))
+mask-drop w k few t j h =
+    mask-is k (λ i. t i && not (eqb i j)) (bitAnd (mask k t) (2 ^ w - 1 - 2 ^ j)) (lt-of-le-of-lt (and-le-l (mask k t) (2 ^ w - 1 - 2 ^ j)) (mask-lt k t))
+    (λ i l. has-and (mask k t) (2 ^ w - 1 - 2 ^ j) i ∙ ap₂ _&&_ (mask-has k t i l) (has-not w (2 ^ j) i (pow-lt h) (le-trans l few) ∙ ap not (has-pow j i)))
 
--- every number below n
-pub mask-low : (k n : ℕ) → n ≤ k → 2 ^ n - 1 ≡ mask k (λ i. ltb i n)
-mask-low k n h =
-    let short : 2 ^ n - 1 < 2 ^ k = omega (arith, pow-mono h, pow-pos n) in
-    mask-is k (λ i. ltb i n) (2 ^ n - 1) short (λ i l. ⊎-elim (inside i) (outside i) (below-or-not i n))
-  where
-    inside : (i : ℕ) → i < n → has (2 ^ n - 1) i ≡ ltb i n
-    inside i l = ap (λ (x : ℕ). has x i) (sym (sub-zero (2 ^ n - 1))) ∙ has-not n 0 i (pow-pos n) l ∙ ap not (has-zero i) ∙ sym (lt-ltb i n l)
-
-    outside : (i : ℕ) → n ≤ i → has (2 ^ n - 1) i ≡ ltb i n
-    outside i l = ap (λ (b : ℕ). eqb b 1) (bit-above i n (omega (arith, pow-pos n)) l) ∙ sym (le-ltb i n l)
+-- every number below k
+pub mask-all : (k : ℕ) → 2 ^ k - 1 ≡ mask k (λ i. true)
+mask-all k =
+    mask-is k (λ i. true) (2 ^ k - 1) (omega (arith, pow-pos k))
+    (λ i l. ap (λ (x : ℕ). has x i) (sym (sub-zero (2 ^ k - 1))) ∙ has-not k 0 i (pow-pos k) l ∙ ap not (has-zero i))

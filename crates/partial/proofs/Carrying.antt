@@ -9,20 +9,22 @@ use native.Mathlib.Numerals.{add-one}
 use native.Mathlib.Omega.{arith}
 use borrow.Author.Tests.{eq-eqb, ne-eqb}
 use lib.Bits.{bitAnd, bitOr, and-le-r, or-lt, and-mask}
-use lib.Dec.{leb, ltb, eqb}
+use lib.Dec.{ltb, eqb}
+use lib.Pow.{pow-mono}
 use lib.ListN.{length, getD}
 use Rattle.bits.specs.Bits.{has, mask, any}
 use Rattle.bits.proofs.Below.{any-or, any-same, any-under, any-never}
 use Rattle.bits.proofs.Bit.{has-or, has-and, has-zero, any-bit}
-use Rattle.bits.proofs.Mask.{mask-lt, mask-has, mask-none, mask-same, mask-add}
+use Rattle.bits.proofs.Mask.{mask-lt, mask-at, mask-none, mask-same, mask-add}
 use Rattle.cubes.specs.Cubes.{cube-names}
 use Rattle.rules.specs.Rules.{follows}
-use Rattle.wirings.specs.Wirings.{input-of, inverted, uses, straight}
-use Rattle.wirings.specs.Pairs.{asks-one, asks-zero, lands, carried-pos, carried-neg, separates, unplaced-literal, unused-literal, dead}
+use Rattle.wirings.specs.Wirings.{input-of, inverted, straight}
+use Rattle.wirings.specs.Pairs.{asks-one, asks-zero, lands, carried-pos, carried-neg, separates, unplaced, unused, unplaced-literal, unused-literal, dead}
 use Rattle.partial.specs.declared.Carried.{Carried}
 use Rattle.partial.specs.declared.Wiring.{Wiring}
-use Rattle.partial.specs.Partial.{unplaced, unused, prefix, Formed, located, carried, opposes, clears}
+use Rattle.partial.specs.Partial.{prefix, Formed, located, carried, opposes, clears}
 use Rattle.partial.proofs.Standing.{located-plain, stands-unplaced, stands-free}
+use Rattle.wirings.proofs.Dead.{not-either}
 use Rattle.wirings.proofs.Choices.{placed-input}
 use Rattle.wirings.proofs.Agreement.{lands-any}
 
@@ -59,37 +61,36 @@ module _ (c : Carried) (P′ N′ : ℕ) (p : P′ < 2 ^ 8) (m : N′ < 2 ^ 8) w
 
 -- ---- the literals that wait: on an unplaced input of f, and on an unused input of g
 
--- a test of the inputs below n, by a mask of eight
-below-eight : (t u : ℕ → Bool) (n : ℕ) → n ≤ 8 → any 8 (λ j. has (mask 8 (λ j. ltb j n && t j)) j && u j) ≡ any n (λ j. t j && u j)
-below-eight t u n h =
-    any-same _ _ 8 (λ j l. ap (λ (b : Bool). b && u j) (mask-has 8 (λ j. ltb j n && t j) j l) ∙ and-assoc (ltb j n) (t j) (u j))
-    ∙ any-under (λ j. t j && u j) n 8 h
+-- a test of the inputs in a mask
+in-mask : (t u : ℕ → Bool) (n : ℕ) → n ≤ 8 → any 8 (λ j. has (mask n t) j && u j) ≡ any n (λ j. t j && u j)
+in-mask t u n h =
+    any-same _ _ 8 (λ j l. ap (λ (b : Bool). b && u j) (mask-at n t j) ∙ and-assoc (ltb j n) (t j) (u j)) ∙ any-under (λ j. t j && u j) n 8 h
 
 -- whether the cube of f has a literal on an unplaced input, by masks
 module _ (r : Wiring) (s : Formed r) (P N : ℕ) where
-  abbrev waiting : ℕ
-  waiting = bitAnd (bitOr P N) (mask 8 (unplaced (r .n) (prefix r)))
+  abbrev placeable : ℕ
+  placeable = mask (r .n) (unplaced (prefix r))
 
   waits : not (eqb (bitAnd (bitOr P N) (r .unplaced)) 0) ≡ unplaced-literal (r .n) (prefix r) P N
   waits =
-      let m = mask 8 (unplaced (r .n) (prefix r)) in
+      let small = lt-of-lt-of-le (mask-lt (r .n) (unplaced (prefix r))) (pow-mono (s .few)) in
       ap (λ (u : ℕ). not (eqb (bitAnd (bitOr P N) u) 0)) (stands-unplaced r (r .n) (prefix r) s)
-      ∙ sym (any-bit 8 waiting (lt-of-le-of-lt (and-le-r (bitOr P N) m) (mask-lt 8 (unplaced (r .n) (prefix r)))))
-      ∙ any-same (has waiting) _ 8 (λ i l. has-and (bitOr P N) m i ∙ and-comm (has (bitOr P N) i) (has m i) ∙ ap (λ (b : Bool). has m i && b) (has-or P N i))
-      ∙ below-eight (λ i. leb (length (prefix r)) i) (cube-names P N) (r .n) (s .few)
+      ∙ sym (any-bit 8 (bitAnd (bitOr P N) placeable) (lt-of-le-of-lt (and-le-r (bitOr P N) placeable) small))
+      ∙ any-same _ _ 8 (λ i l. has-and (bitOr P N) placeable i ∙ and-comm (has (bitOr P N) i) (has placeable i) ∙ ap (λ (b : Bool). has placeable i && b) (has-or P N i))
+      ∙ in-mask (unplaced (prefix r)) (cube-names P N) (r .n) (s .few)
 
   -- the inputs of g at which a literal may still come to stand: none, or those that are free
-  pub none-waits : bitAnd (bitOr P N) (r .unplaced) ≡ 0 → 0 ≡ cond (unplaced-literal (r .n) (prefix r) P N) (mask 8 (unused (r .n) (prefix r))) 0
-  none-waits e = ap {B = ℕ} (λ (t : Bool). cond t (mask 8 (unused (r .n) (prefix r))) 0) (sym (ap not (eq-eqb _ 0 e)) ∙ waits)
+  pub none-waits : bitAnd (bitOr P N) (r .unplaced) ≡ 0 → 0 ≡ cond (unplaced-literal (r .n) (prefix r) P N) (mask (r .n) (unused (prefix r))) 0
+  none-waits e = ap {B = ℕ} (λ (t : Bool). cond t (mask (r .n) (unused (prefix r))) 0) (sym (ap not (eq-eqb _ 0 e)) ∙ waits)
 
-  pub one-waits : (bitAnd (bitOr P N) (r .unplaced) ≡ 0 → ⊥) → r .free ≡ cond (unplaced-literal (r .n) (prefix r) P N) (mask 8 (unused (r .n) (prefix r))) 0
+  pub one-waits : (bitAnd (bitOr P N) (r .unplaced) ≡ 0 → ⊥) → r .free ≡ cond (unplaced-literal (r .n) (prefix r) P N) (mask (r .n) (unused (prefix r))) 0
   one-waits e =
-      stands-free r (r .n) (prefix r) s ∙ ap (λ (t : Bool). cond t (mask 8 (unused (r .n) (prefix r))) 0) (sym (ap not (ne-eqb _ 0 e)) ∙ waits)
+      stands-free r (r .n) (prefix r) s ∙ ap (λ (t : Bool). cond t (mask (r .n) (unused (prefix r))) 0) (sym (ap not (ne-eqb _ 0 e)) ∙ waits)
 
 -- the inputs of g at which a waiting literal may come to stand
 free-meets : (U : Bool) (n : ℕ) → n ≤ 8 → (w : List ℕ) (P′ N′ : ℕ)
-    → any 8 (λ j. has (cond U (mask 8 (unused n w)) 0) j && cube-names P′ N′ j) ≡ U && unused-literal n w P′ N′
-free-meets true n few w P′ N′ = below-eight (λ j. not (uses w j)) (cube-names P′ N′) n few
+    → any 8 (λ j. has (cond U (mask n (unused w)) 0) j && cube-names P′ N′ j) ≡ U && unused-literal n w P′ N′
+free-meets true n few w P′ N′ = in-mask (unused w) (cube-names P′ N′) n few
 free-meets false n few w P′ N′ = any-same _ (λ j. false) 8 (λ j l. ap (λ (b : Bool). b && cube-names P′ N′ j) (has-zero j)) ∙ any-never 8
 
 -- ---- what the carried cube says of the pair
@@ -112,12 +113,7 @@ module _ (n : ℕ) (few : n ≤ 8) (w : List ℕ) (allowed : follows (straight n
   unfolding carried clears dead
   clears-dead =
       ap not (ap₂ _||_ opposes-separates (free-meets (unplaced-literal n w P N) n few w P′ N′))
-      ∙ turn (separates w P N P′ N′) (unplaced-literal n w P N) (unused-literal n w P′ N′)
-    where
-      turn : (a b c : Bool) → not (a || b && c) ≡ not a && (not b || not c)
-      turn true b c = refl
-      turn false true c = refl
-      turn false false c = refl
+      ∙ not-either (separates w P N P′ N′) (unplaced-literal n w P N) (unused-literal n w P′ N′)
 
 -- ---- the loop that carries: the literals on the first d inputs have landed
 
@@ -162,7 +158,7 @@ module _ (w : List ℕ) (P N : ℕ) where
       picked false a b i = refl
 
   -- all are carried
-  pub carrying-ends : (n d ones zeros free : ℕ) → Carrying d ones zeros → length w ≤ d → free ≡ cond (unplaced-literal n w P N) (mask 8 (unused n w)) 0
+  pub carrying-ends : (n d ones zeros free : ℕ) → Carrying d ones zeros → length w ≤ d → free ≡ cond (unplaced-literal n w P N) (mask n (unused w)) 0
       → record { pos = ones; neg = zeros; free = free } ≡ carried n w P N
   unfolding carried
   carrying-ends n d ones zeros free c h e =

@@ -1,4 +1,4 @@
-pub mod Packed
+pub mod Joined
 pub mod Standing
 pub mod Carrying
 pub mod Rows

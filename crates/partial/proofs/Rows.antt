@@ -3,15 +3,16 @@
 use Prim.Native.Nat.{ℕ, _+_, _*_, _≤_, _<_}
 use mathlib.Core.Path.{_≡_, refl, sym, ap, ap₂, _∙_, fun-ext}
 use mathlib.Core.Bool.{Bool, true, false, cond, false≢true}
-use mathlib.Core.List.{List, [], _∷_, map, flatMap}
+use mathlib.Core.List.{List, [], _∷_}
 use mathlib.Core.Option.{Option, none, some}
 use lib.ListN.{getD}
 use Rattle.rules.specs.Lists.{upto, first}
 use Rattle.rules.specs.Rules.{follows}
-use Rattle.rules.proofs.Lists.{map-in, flat-in, first-of, first-same, first-flat, _else_}
+use Rattle.rules.proofs.Lists.{map-in, first-of, first-same, first-flat, _else_}
 use Rattle.rules.proofs.Seek.{Seek, seek-found, seek-goes, seek-ends, first-given, else-nothing}
 use Rattle.wirings.specs.Wirings.{straight}
-use Rattle.wirings.specs.Pairs.{dead, cubes-in, Pair, pairs, of-pair, first-dead, side, against}
+use Rattle.wirings.specs.Pairs.{dead, cubes-in, at-cube, side, against, Pair, cube-pairs, pairs, pair-test, of-pair, first-dead}
+use Rattle.wirings.proofs.Indexed.{of-side, side-test}
 use Rattle.partial.specs.declared.Carried.{Carried}
 use Rattle.partial.specs.Partial.{carried, clears, found, row, rows}
 use Rattle.partial.proofs.Carrying.{clears-dead}
@@ -32,19 +33,19 @@ found-none (some p) e = absurd (false≢true (sym e))
 module _ (c : Carried) (list : List ℕ) (s u : ℕ) where
   -- what cube v of the list gives
   abbrev pub row-at : ℕ → Option Pair
-  row-at v = cond (clears c (getD list (2 * v) 0) (getD list (2 * v + 1) 0)) (some (s, u, v)) none
+  row-at v = cond (at-cube (clears c) list v) (some (s, u, v)) none
 
   row-given : row c list s u ≡ first-of row-at (upto (cubes-in list))
   unfolding row
-  row-given = first-given (λ p. clears c (getD list (2 * p .2) 0) (getD list (2 * p .2 + 1) 0)) (λ v. (s, u, v)) (upto (cubes-in list))
+  row-given = first-given (λ p. at-cube (clears c) list (p .2)) (λ v. (s, u, v)) (upto (cubes-in list))
 
   module _ (v : ℕ) (w : Seek row-at (cubes-in list) v) where
-    pub row-found : v < cubes-in list → clears c (getD list (2 * v) 0) (getD list (2 * v + 1) 0) ≡ true → row c list s u ≡ some (s, u, v)
+    pub row-found : v < cubes-in list → at-cube (clears c) list v ≡ true → row c list s u ≡ some (s, u, v)
     row-found h e =
         let here : row-at v ≡ some (s, u, v) = ap (λ (t : Bool). cond t (some (s, u, v)) none) e in
         row-given ∙ seek-found row-at (cubes-in list) v w h (s, u, v) here ∙ here
 
-    pub row-goes : v < cubes-in list → clears c (getD list (2 * v) 0) (getD list (2 * v + 1) 0) ≡ false → Seek row-at (cubes-in list) (v + 1)
+    pub row-goes : v < cubes-in list → at-cube (clears c) list v ≡ false → Seek row-at (cubes-in list) (v + 1)
     row-goes h e = seek-goes row-at (cubes-in list) v w h (ap (λ (t : Bool). cond t (some (s, u, v)) none) e)
 
     pub row-ends : cubes-in list ≤ v → row c list s u ≡ none
@@ -54,7 +55,7 @@ module _ (c : Carried) (list : List ℕ) (s u : ℕ) where
 
 -- what cube u of the list gives
 abbrev pub rows-at : ℕ → List ℕ → List ℕ → List ℕ → ℕ → ℕ → Option Pair
-rows-at n w list other s u = row (carried n w (getD list (2 * u) 0) (getD list (2 * u + 1) 0)) other s u
+rows-at n w list other s u = row (at-cube (carried n w) list u) other s u
 
 module _ (n : ℕ) (few : n ≤ 8) (w : List ℕ) (allowed : follows (straight n) [] w ≡ true) (list other : List ℕ) (s : ℕ) where
   abbrev at : ℕ → Option Pair
@@ -63,17 +64,15 @@ module _ (n : ℕ) (few : n ≤ 8) (w : List ℕ) (allowed : follows (straight n
   rows-given : rows n w list other s ≡ first-of at (upto (cubes-in list))
   unfolding rows row
   rows-given =
-      first-flat _ (λ u. map (λ v. (s, u, v)) (upto (cubes-in other))) (upto (cubes-in list))
+      first-flat (pair-test (dead n w) list other) (cube-pairs other s) (upto (cubes-in list))
       ∙ ap (λ (h : ℕ → Option Pair). first-of h (upto (cubes-in list))) (fun-ext same-row)
     where
-      same-row : (u : ℕ)
-          → first (λ p. dead n w (getD list (2 * p .1) 0) (getD list (2 * p .1 + 1) 0) (getD other (2 * p .2) 0) (getD other (2 * p .2 + 1) 0)) (map (λ v. (s, u, v)) (upto (cubes-in other)))
-          ≡ at u
+      same-row : (u : ℕ) → first (pair-test (dead n w) list other) (cube-pairs other s u) ≡ at u
       same-row u =
-          first-same _ _ (map (λ v. (s, u, v)) (upto (cubes-in other)))
+          first-same _ _ (cube-pairs other s u)
           (λ p i.
           let x = map-in (λ v. (s, u, v)) p (upto (cubes-in other)) i in
-          ap (λ (k : ℕ). dead n w (getD list (2 * k) 0) (getD list (2 * k + 1) 0) (getD other (2 * p .2) 0) (getD other (2 * p .2 + 1) 0)) (ap (λ (p : Pair). p .1) (x .2))
+          ap (λ (k : ℕ). at-cube (at-cube (dead n w) list k) other (p .2)) (ap (λ (p : Pair). p .1) (x .2))
           ∙ sym (clears-dead n few w allowed (getD list (2 * u) 0) (getD list (2 * u + 1) 0) (getD other (2 * p .2) 0) (getD other (2 * p .2 + 1) 0)))
 
   module _ (u : ℕ) (k : Seek at (cubes-in list) u) (o : Option Pair) (here : o ≡ at u) where
@@ -94,16 +93,8 @@ pub first-dead-rows : (n q : ℕ) (f g w : List ℕ)
     → first-dead n q f g w ≡ (rows n w (side 0 f) (side (against q 0) g) 0 else rows n w (side 1 f) (side (against q 1) g) 1)
 unfolding first-dead pairs rows first-of
 first-dead-rows n q f g w =
-    first-flat (of-pair q f g (dead n w)) block (0 ∷ 1 ∷ [])
-    ∙ ap₂ (λ (a b : Option Pair). a else b) (same-block 0) (else-nothing (first (of-pair q f g (dead n w)) (block 1)) ∙ same-block 1)
+    first-flat (of-pair q f g (dead n w)) (of-side q f g) (0 ∷ 1 ∷ [])
+    ∙ ap₂ (λ (a b : Option Pair). a else b) (same-list 0) (else-nothing (first (of-pair q f g (dead n w)) (of-side q f g 1)) ∙ same-list 1)
   where
-    block : ℕ → List Pair
-    block s = flatMap (λ u. map (λ v. (s, u, v)) (upto (cubes-in (side (against q s) g)))) (upto (cubes-in (side s f)))
-
-    same-block : (s : ℕ) → first (of-pair q f g (dead n w)) (block s) ≡ rows n w (side s f) (side (against q s) g) s
-    same-block s =
-        first-same _ _ (block s)
-        (λ p i.
-        let x = flat-in (λ u. map (λ v. (s, u, v)) (upto (cubes-in (side (against q s) g)))) p (upto (cubes-in (side s f))) i in
-        let y = map-in (λ v. (s, x .0, v)) p (upto (cubes-in (side (against q s) g))) (x .2) in
-        ap (λ (k : ℕ). of-pair q f g (dead n w) (k, p .1, p .2)) (ap (λ (p : Pair). p .0) (y .2)))
+    same-list : (s : ℕ) → first (of-pair q f g (dead n w)) (of-side q f g s) ≡ rows n w (side s f) (side (against q s) g) s
+    same-list s = first-same _ _ (of-side q f g s) (side-test q f g (dead n w) s)

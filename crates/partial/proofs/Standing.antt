@@ -2,28 +2,29 @@
 -- back from it, so that a caller knows a wiring by n and its choices alone.
 use Prim.Native.Nat.{ℕ, zero, suc, _+_, _-_, _*_, _/_, _%_, _≤_, _<_, _^_}
 use mathlib.Core.Path.{_≡_, refl, sym, ap, ap₂, _∙_, subst, subst₂}
-use mathlib.Core.Bool.{Bool, true, false, cond, not, _&&_, _||_, and-true}
+use mathlib.Core.Bool.{Bool, true, false, cond, not, _&&_, _||_}
 use mathlib.Core.List.{List, [], _∷_}
 use mathlib.Core.Logic.{⊎-elim}
 use native.Mathlib.Nat.{le-trans, lt-of-lt-of-le, mod-eq-of-lt}
 use native.Mathlib.Omega.{arith}
-use borrow.Author.Tests.{not-true, leb-true, le-leb, lt-leb, le-ltb, eqb-false, ne-eqb}
+use borrow.Author.Tests.{not-true, leb-true, le-leb, lt-leb, eqb-false, ne-eqb}
 use lib.Bits.{bitAnd, bitXor, and-mask, and-high, xor-zero-r, xor-add-and}
-use lib.Dec.{eqb, ltb, leb}
+use lib.Dec.{eqb, leb}
 use lib.ListN.{length, getD, length-append, List·getD-eq-default}
 use lib.Pow.{pow-mono}
 use Rattle.bits.specs.Bits.{bit, mask}
-use Rattle.bits.proofs.Tests.{both, both-left, both-right, same-test, eqb-comm, below-or-not, not-passed}
+use Rattle.bits.proofs.Tests.{both, both-left, both-right, same-test, eqb-comm, below-or-not, not-passed, not-or}
 use Rattle.bits.proofs.Bit.{bit-le, one-shifted}
-use Rattle.bits.proofs.Mask.{mask-has, mask-above, mask-same, mask-drop, mask-low}
+use Rattle.bits.proofs.Mask.{mask-at, mask-same, mask-drop, mask-all}
 use Rattle.rules.specs.Lists.{some-in}
 use Rattle.rules.specs.Rules.{follows, _adding_}
 use Rattle.records.proofs.Cubes.{Bytes}
 use Rattle.wirings.specs.Wirings.{input-of, inverted, straight, is-choice, uses, free-choice}
+use Rattle.wirings.specs.Pairs.{unplaced, unused}
 use Rattle.wirings.proofs.Choices.{choice-input, choice-byte, choice-below, plain-choice, place-next, free-count, uses-adding, placed-choice, placed-input}
 use Rattle.partial.specs.declared.Wiring.{Wiring}
-use Rattle.partial.specs.Partial.{packed, unplaced, unused, partial, prefix, Stands, Formed, may-place, located}
-use Rattle.partial.proofs.Packed.{packed-lt, packed-add, packed-at, unpacked-packed}
+use Rattle.partial.specs.Partial.{as-number, partial, prefix, StandsFor, Formed, may-place, located}
+use Rattle.partial.proofs.Joined.{number-lt, number-add, number-at, number-bytes}
 
 module _ (n : ℕ) (few : n ≤ 8) (w : List ℕ) (allowed : follows (straight n) [] w ≡ true) where
   pub placed-bytes : Bytes w
@@ -35,7 +36,7 @@ module _ (n : ℕ) (few : n ≤ 8) (w : List ℕ) (allowed : follows (straight n
   pub placed-within : length w ≤ n
   placed-within = omega (arith, free-count n (omega arith) w allowed)
 
-module _ (r : Wiring) (n : ℕ) (w : List ℕ) (s : Stands r n w) where
+module _ (r : Wiring) (n : ℕ) (w : List ℕ) (s : StandsFor r n w) where
   pub stands-n : r .n ≡ n
   unfolding partial
   stands-n = ap (λ (r : Wiring). r .n) (s .is)
@@ -44,25 +45,25 @@ module _ (r : Wiring) (n : ℕ) (w : List ℕ) (s : Stands r n w) where
   unfolding partial
   stands-depth = ap (λ (r : Wiring). r .depth) (s .is)
 
-  pub stands-unplaced : r .unplaced ≡ mask 8 (unplaced n w)
+  pub stands-unplaced : r .unplaced ≡ mask n (unplaced w)
   unfolding partial
   stands-unplaced = ap (λ (r : Wiring). r .unplaced) (s .is)
 
-  pub stands-free : r .free ≡ mask 8 (unused n w)
+  pub stands-free : r .free ≡ mask n (unused w)
   unfolding partial
   stands-free = ap (λ (r : Wiring). r .free) (s .is)
 
-  pub stands-choices : r .choices ≡ packed w
+  pub stands-choices : r .choices ≡ as-number w
   unfolding partial
   stands-choices = ap (λ (r : Wiring). r .choices) (s .is)
 
   -- the choices are read back
   pub stands-prefix : prefix r ≡ w
   unfolding partial
-  stands-prefix = ap prefix (s .is) ∙ unpacked-packed w (placed-bytes n (s .few) w (s .allowed))
+  stands-prefix = ap prefix (s .is) ∙ number-bytes w (placed-bytes n (s .few) w (s .allowed))
 
   pub stands-formed : Formed r
-  stands-formed = subst₂ (Stands r) (sym stands-n) (sym stands-prefix) s
+  stands-formed = subst₂ (StandsFor r) (sym stands-n) (sym stands-prefix) s
 
 -- ---- whether an input is free
 
@@ -83,23 +84,19 @@ module _ (r : Wiring) (b : ℕ) (s : Formed r) where
   unfolding bit
   free-masks low =
       let j = input-of b in
-      let t = unused (r .n) (prefix r) in
+      let m = mask (r .n) (unused (prefix r)) in
       ap (λ (k : ℕ). not (eqb k 0)) (and-mask (r .free / 2 ^ bitAnd b 15) 1 ∙ ap₂ (λ (m k : ℕ). m / 2 ^ k % 2) (stands-free r (r .n) (prefix r) s) (and-mask b 4))
-      ∙ not-zero (bit j (mask 8 t)) (bit-le j (mask 8 t))
-      ∙ ⊎-elim (mask-has 8 t j)
-      (λ (h : 8 ≤ j). mask-above 8 t j h ∙ sym (ap (λ (u : Bool). u && free-choice (prefix r) b) (le-ltb j (r .n) (le-trans (s .few) h))))
-      (below-or-not j 8)
+      ∙ not-zero (bit j m) (bit-le j m) ∙ mask-at (r .n) (unused (prefix r)) j
       ∙ ap (λ (u : Bool). u && free-choice (prefix r) b) (sym (choice-below (r .n) (omega (arith, s .few)) b low))
 
 -- ---- the empty one
 
-pub started : (n : ℕ) → n ≤ 8 → let all = (1 * 2 ^ n) % 2 ^ 32 - 1 in Stands (record { n = n; depth = 0; unplaced = all; free = all; choices = 0 }) n []
-unfolding partial packed some-in follows
+pub started : (n : ℕ) → n ≤ 8 → let all = (1 * 2 ^ n) % 2 ^ 32 - 1 in StandsFor (record { n = n; depth = 0; unplaced = all; free = all; choices = 0 }) n []
+unfolding partial as-number some-in follows
 started n h =
-    let low : (1 * 2 ^ n) % 2 ^ 32 - 1 ≡ mask 8 (λ i. ltb i n) = ap (λ (m : ℕ). m - 1) (one-shifted 32 n (omega arith)) ∙ mask-low 8 n h in
-    let unplaced-is = low ∙ mask-same 8 (λ i. ltb i n) (unplaced n []) (λ i l. sym (ap (λ (t : Bool). ltb i n && t) (le-leb 0 i (omega arith)) ∙ and-true (ltb i n))) in
-    let unused-is = low ∙ mask-same 8 (λ i. ltb i n) (unused n []) (λ i l. sym (and-true (ltb i n))) in
-    record { is = λ i. record { n = n; depth = 0; unplaced = unplaced-is i; free = unused-is i; choices = 0 }; few = h; allowed = refl }
+    let all : (1 * 2 ^ n) % 2 ^ 32 - 1 ≡ mask n (λ i. true) = ap (λ (m : ℕ). m - 1) (one-shifted 32 n (omega arith)) ∙ mask-all n in
+    let unplaced-is = all ∙ mask-same n (λ i. true) (unplaced []) (λ i l. sym (le-leb 0 i (omega arith))) in
+    record { is = λ i. record { n = n; depth = 0; unplaced = unplaced-is i; free = all i; choices = 0 }; few = h; allowed = refl }
 
 -- ---- where a literal goes
 
@@ -130,7 +127,7 @@ module _ (r : Wiring) (l : ℕ) (s : Formed r) (literal : is-choice (r .depth) l
       let w = prefix r in
       let b = getD w (input-of l) 0 in
       let here : bitAnd (r .choices / 2 ^ (8 * bitAnd l 15)) 255 ≡ b =
-      and-mask (r .choices / 2 ^ (8 * bitAnd l 15)) 8 ∙ ap₂ (λ (c i : ℕ). c / 2 ^ (8 * i) % 256) (stands-choices r (r .n) w s) (and-mask l 4) ∙ packed-at w (placed-bytes (r .n) (s .few) w (s .allowed)) (input-of l) literal-placed in
+      and-mask (r .choices / 2 ^ (8 * bitAnd l 15)) 8 ∙ ap₂ (λ (c i : ℕ). c / 2 ^ (8 * i) % 256) (stands-choices r (r .n) w s) (and-mask l 4) ∙ number-at w (placed-bytes (r .n) (s .few) w (s .allowed)) (input-of l) literal-placed in
       let low : b < 32 = choice-byte (r .n) (omega (arith, s .few)) b (placed-choice (r .n) (omega (arith, s .few)) w (s .allowed) (input-of l) literal-placed) in
       let short : l < 32 = choice-byte (r .depth) (omega (arith, depth-few)) l literal in
       ap (λ (m : ℕ). bitXor m (bitAnd l 16)) here ∙ turned l b short low
@@ -175,9 +172,8 @@ module _ (r : Wiring) (s : Formed r) (i : ℕ) (h : i < r .depth) where
 -- ---- one choice more
 
 -- the inputs past the next one
-past : (t : Bool) (d e i : ℕ) → e ≡ d + 1 → t && leb d i && not (eqb i d) ≡ t && leb e i
-past false d e i q = refl
-past true d e i q =
+past : (d e i : ℕ) → e ≡ d + 1 → leb d i && not (eqb i d) ≡ leb e i
+past d e i q =
     same-test (leb d i && not (eqb i d)) (leb e i)
     (λ p.
     let no = eqb-false i d (not-true (eqb i d) (both-right (leb d i) (not (eqb i d)) p)) in
@@ -185,14 +181,9 @@ past true d e i q =
     (λ p. both (le-leb d i (omega (arith, leb-true e i p))) (ap not (ne-eqb i d (λ h. omega (arith, leb-true e i p)))))
 
 -- the unused inputs but that of one choice more
-but : (t : Bool) (w : List ℕ) (b j : ℕ) → t && not (uses w j) && not (eqb j (input-of b)) ≡ t && not (uses (w adding b) j)
-but t w b j =
-    turn t (uses w j) (eqb j (input-of b)) ∙ ap (λ (u : Bool). t && not u) (ap (λ (e : Bool). uses w j || e) (eqb-comm j (input-of b)) ∙ sym (uses-adding w b j))
-  where
-    turn : (t x y : Bool) → t && not x && not y ≡ t && not (x || y)
-    turn false x y = refl
-    turn true true y = refl
-    turn true false y = refl
+but : (w : List ℕ) (b j : ℕ) → unused w j && not (eqb j (input-of b)) ≡ unused (w adding b) j
+but w b j =
+    sym (not-or (uses w j) (eqb j (input-of b))) ∙ ap not (ap (λ (e : Bool). uses w j || e) (eqb-comm j (input-of b)) ∙ sym (uses-adding w b j))
 
 module _ (r : Wiring) (b : ℕ) (s : Formed r) (may : may-place r b ≡ true) where
   choice : is-choice (r .n) b ≡ true
@@ -216,15 +207,15 @@ module _ (r : Wiring) (b : ℕ) (s : Formed r) (may : may-place r b ≡ true) wh
   pub input-room : bitAnd b 15 < 8
   input-room = omega (arith, and-mask b 4, choice-input (r .n) (omega (arith, s .few)) b choice, s .few)
 
-  -- the choice at its place in the packed number
-  grown : r .choices + b * 2 ^ (8 * r .depth) ≡ packed more
-  grown = ap₂ (λ (c d : ℕ). c + b * 2 ^ (8 * d)) (stands-choices r (r .n) w s) (stands-depth r (r .n) w s) ∙ sym (packed-add w b)
+  -- the choice at its place in the as-number number
+  grown : r .choices + b * 2 ^ (8 * r .depth) ≡ as-number more
+  grown = ap₂ (λ (c d : ℕ). c + b * 2 ^ (8 * d)) (stands-choices r (r .n) w s) (stands-depth r (r .n) w s) ∙ sym (number-add w b)
 
-  grown-fits : packed more < 2 ^ 64
+  grown-fits : as-number more < 2 ^ 64
   grown-fits =
       let few : length more ≤ 8 = le-trans (placed-within (r .n) (s .few) more allowed-more) (s .few) in
       let bits : 8 * length more ≤ 64 = omega arith in
-      lt-of-lt-of-le (packed-lt more (placed-bytes (r .n) (s .few) more allowed-more)) (pow-mono bits)
+      lt-of-lt-of-le (number-lt more (placed-bytes (r .n) (s .few) more allowed-more)) (pow-mono bits)
 
   shift-exact : (b * 2 ^ (8 * r .depth)) % 2 ^ 64 ≡ b * 2 ^ (8 * r .depth)
   shift-exact = mod-eq-of-lt (omega (arith, grown, grown-fits))
@@ -232,23 +223,23 @@ module _ (r : Wiring) (b : ℕ) (s : Formed r) (may : may-place r b ≡ true) wh
   pub choices-fit : r .choices + (b * 2 ^ (8 * r .depth)) % 2 ^ 64 < 2 ^ 64
   choices-fit = omega (arith, shift-exact, grown, grown-fits)
 
-  unplaced-more : bitAnd (r .unplaced) (255 - (1 * 2 ^ (r .depth)) % 256) ≡ mask 8 (unplaced (r .n) more)
+  unplaced-more : bitAnd (r .unplaced) (255 - (1 * 2 ^ (r .depth)) % 256) ≡ mask (r .n) (unplaced more)
   unplaced-more =
       let here : length w < 8 = omega (arith, room, s .few) in
       ap₂ (λ (m d : ℕ). bitAnd m (255 - (1 * 2 ^ d) % 256)) (stands-unplaced r (r .n) w s) (stands-depth r (r .n) w s)
-      ∙ ap (λ (m : ℕ). bitAnd (mask 8 (unplaced (r .n) w)) (255 - m)) (one-shifted 8 (length w) here)
-      ∙ mask-drop 8 (unplaced (r .n) w) (length w) here
-      ∙ mask-same 8 _ (unplaced (r .n) more) (λ i l. past (ltb i (r .n)) (length w) (length more) i (length-append w (b ∷ [])))
+      ∙ ap (λ (m : ℕ). bitAnd (mask (r .n) (unplaced w)) (255 - m)) (one-shifted 8 (length w) here)
+      ∙ mask-drop 8 (r .n) (s .few) (unplaced w) (length w) here
+      ∙ mask-same (r .n) _ (unplaced more) (λ i l. past (length w) (length more) i (length-append w (b ∷ [])))
 
-  unused-more : bitAnd (r .free) (255 - (1 * 2 ^ (bitAnd b 15)) % 256) ≡ mask 8 (unused (r .n) more)
+  unused-more : bitAnd (r .free) (255 - (1 * 2 ^ (bitAnd b 15)) % 256) ≡ mask (r .n) (unused more)
   unused-more =
       let here : input-of b < 8 = omega (arith, and-mask b 4, input-room) in
       ap₂ (λ (m j : ℕ). bitAnd m (255 - (1 * 2 ^ j) % 256)) (stands-free r (r .n) w s) (and-mask b 4)
-      ∙ ap (λ (m : ℕ). bitAnd (mask 8 (unused (r .n) w)) (255 - m)) (one-shifted 8 (input-of b) here)
-      ∙ mask-drop 8 (unused (r .n) w) (input-of b) here
-      ∙ mask-same 8 _ (unused (r .n) more) (λ j l. but (ltb j (r .n)) w b j)
+      ∙ ap (λ (m : ℕ). bitAnd (mask (r .n) (unused w)) (255 - m)) (one-shifted 8 (input-of b) here)
+      ∙ mask-drop 8 (r .n) (s .few) (unused w) (input-of b) here
+      ∙ mask-same (r .n) _ (unused more) (λ j l. but w b j)
 
-  pub placed : Stands (record {
+  pub placed : StandsFor (record {
     n = r .n;
     depth = r .depth + 1;
     unplaced = bitAnd (r .unplaced) (255 - (1 * 2 ^ (r .depth)) % 256);

@@ -3,16 +3,15 @@
 use Prim.Native.Nat.{ℕ, zero, suc, _+_, _-_, _*_, _/_, _%_, _≤_}
 use mathlib.Core.Path.{_≡_}
 use mathlib.Core.Bool.{Bool, true, false, cond, not, _&&_, _||_}
-use mathlib.Core.List.{List, [], _∷_, map, flatMap}
+use mathlib.Core.List.{List, [], _∷_, flatMap}
 use mathlib.Core.Option.{Option, none, some}
-use lib.Dec.{leb, ltb}
 use lib.ListN.{length, getD}
 use Rattle.bits.specs.Bits.{has, mask, any}
 use Rattle.cubes.specs.Cubes.{cube-names}
-use Rattle.rules.specs.Lists.{upto, first}
+use Rattle.rules.specs.Lists.{first}
 use Rattle.rules.specs.Rules.{follows}
-use Rattle.wirings.specs.Wirings.{input-of, inverted, uses, is-choice, free-choice, straight}
-use Rattle.wirings.specs.Pairs.{carried-pos, carried-neg, unplaced-literal, dead, cubes-in, Pair}
+use Rattle.wirings.specs.Wirings.{input-of, inverted, is-choice, free-choice, straight}
+use Rattle.wirings.specs.Pairs.{carried-pos, carried-neg, unplaced, unused, unplaced-literal, dead, Pair, at-cube, cube-pairs, list-pairs, pair-test}
 use Rattle.partial.specs.declared.Wiring.{Wiring}
 use Rattle.partial.specs.declared.Carried.{Carried}
 use Rattle.partial.specs.declared.Found.{Found}
@@ -20,37 +19,30 @@ use Rattle.partial.specs.declared.Found.{Found}
 -- ---- the wiring
 
 -- choice bytes as one number, the first lowest, and back
-unfoldable pub packed : List ℕ → ℕ
-packed [] = 0
-packed (b ∷ w) = b + 256 * packed w
+unfoldable pub as-number : List ℕ → ℕ
+as-number [] = 0
+as-number (b ∷ w) = b + 256 * as-number w
 
-unfoldable pub unpacked : ℕ → ℕ → List ℕ
-unpacked zero c = []
-unpacked (suc k) c = c % 256 ∷ unpacked k (c / 256)
-
--- the inputs of f without a choice, and the inputs of g that no choice uses
-abbrev pub unplaced : ℕ → List ℕ → ℕ → Bool
-unplaced n w i = ltb i n && leb (length w) i
-
-abbrev pub unused : ℕ → List ℕ → ℕ → Bool
-unused n w j = ltb j n && not (uses w j)
+unfoldable pub as-bytes : ℕ → ℕ → List ℕ
+as-bytes zero c = []
+as-bytes (suc k) c = c % 256 ∷ as-bytes k (c / 256)
 
 -- the partial wiring of n inputs with the choices w
 unfoldable pub partial : ℕ → List ℕ → Wiring
-partial n w = record { n = n; depth = length w; unplaced = mask 8 (unplaced n w); free = mask 8 (unused n w); choices = packed w }
+partial n w = record { n = n; depth = length w; unplaced = mask n (unplaced w); free = mask n (unused w); choices = as-number w }
 
 -- n is at most 8, and the rule of 01 allows the choices
-pub record Stands (r : Wiring) (n : ℕ) (w : List ℕ) : Type 0 where
+pub record StandsFor (r : Wiring) (n : ℕ) (w : List ℕ) : Type 0 where
   pub is : r ≡ partial n w
   pub few : n ≤ 8
   pub allowed : follows (straight n) [] w ≡ true
 
 -- the choices that a wiring has
 abbrev pub prefix : Wiring → List ℕ
-prefix r = unpacked (r .depth) (r .choices)
+prefix r = as-bytes (r .depth) (r .choices)
 
 abbrev pub Formed : Wiring → Type 0
-Formed r = Stands r (r .n) (prefix r)
+Formed r = StandsFor r (r .n) (prefix r)
 
 -- a byte is a choice of n inputs whose input of g is free
 abbrev pub may-place : Wiring → ℕ → Bool
@@ -68,7 +60,7 @@ unfoldable pub carried : ℕ → List ℕ → ℕ → ℕ → Carried
 carried n w P N = record {
   pos = carried-pos w P N;
   neg = carried-neg w P N;
-  free = cond (unplaced-literal n w P N) (mask 8 (unused n w)) 0;
+  free = cond (unplaced-literal n w P N) (mask n (unused w)) 0;
 }
 
 -- a placed literal is the opposite of a literal of the cube of g
@@ -85,13 +77,10 @@ unfoldable pub found : Option Pair → Found
 found none = record { found = false; s = 0; u = 0; v = 0 }
 found (some p) = record { found = true; s = p .0; u = p .1; v = p .2 }
 
--- of a carried cube, cube u of list s, with a list of g
+-- of a carried cube, cube u of list s, with a list m of g; and of a list l of f with it
 unfoldable pub row : Carried → List ℕ → ℕ → ℕ → Option Pair
-row c list s u = first (λ p. clears c (getD list (2 * p .2) 0) (getD list (2 * p .2 + 1) 0)) (map (λ v. (s, u, v)) (upto (cubes-in list)))
+row c m s u = first (λ p. at-cube (clears c) m (p .2)) (cube-pairs m s u)
 
--- of list s of f with a list of g
 unfoldable pub rows : ℕ → List ℕ → List ℕ → List ℕ → ℕ → Option Pair
 unfolding flatMap
-rows n w list other s =
-    first (λ p. dead n w (getD list (2 * p .1) 0) (getD list (2 * p .1 + 1) 0) (getD other (2 * p .2) 0) (getD other (2 * p .2 + 1) 0))
-    (flatMap (λ u. map (λ v. (s, u, v)) (upto (cubes-in other))) (upto (cubes-in list)))
+rows n w l m s = first (pair-test (dead n w) l m) (list-pairs l m s)

@@ -11,7 +11,7 @@ ghost use Rattle.rules.specs.Rules.{_adding_};
 ghost use Rattle.records.specs.Records.{record-end};
 ghost use Rattle.wirings.specs.Wirings.{inverted, choice-at, is-choice};
 ghost use Rattle.wirings.specs.Pairs.{separates, dead, side, against, first-dead};
-ghost use Rattle.partial.specs.Partial.{prefix, Stands, Formed, may-place, located, carried, opposes, clears, found, row, rows};
+ghost use Rattle.partial.specs.Partial.{prefix, StandsFor, Formed, may-place, located, carried, opposes, clears, found, row, rows};
 
 // A partial wiring of n inputs: the inputs of f below `depth` have their choices, byte i of `choices` for input i. Two masks
 // say what remains: the inputs of f that are unplaced, and the inputs of g that are free.
@@ -154,7 +154,7 @@ impl Wiring {
     // The empty one of n inputs.
     pub fn start(n: u8) -> Self
         requires { ⌜ n ≤ 8 ⌝ }
-        ensures { λ r. ⌜ Stands r n [] ⌝ }
+        ensures { λ r. ⌜ StandsFor r n [] ⌝ }
         ensures { λ r. ⌜ Formed r ⌝ }
     {
         let all = ((1u32 << n) - 1) as u8;
@@ -182,7 +182,7 @@ impl Wiring {
     pub fn place(self, choice: u8) -> Self
         requires { ⌜ Formed self ⌝ }
         requires { ⌜ may-place self choice ≡ true ⌝ }
-        ensures { λ r. ⌜ Stands r (self .n) (prefix self adding choice) ⌝ }
+        ensures { λ r. ⌜ StandsFor r (self .n) (prefix self adding choice) ⌝ }
         ensures { λ r. ⌜ Formed r ⌝ }
     {
         Wiring {

@@ -19,17 +19,17 @@ use Rattle.wirings.proofs.Choices.{listed}
 use Rattle.wirings.specs.Pairs.{Pair, first-dead}
 use Rattle.wirings.proofs.Death.{few-pairs, first-dead-is}
 use Rattle.partial.specs.declared.Wiring.{Wiring}
-use Rattle.partial.specs.Partial.{prefix, Stands, may-place, found}
+use Rattle.partial.specs.Partial.{prefix, StandsFor, may-place, found}
 use Rattle.partial.proofs.Standing.{stands-prefix, stands-n}
 use Rattle.probe.specs.Probe.{comparable, Few}
 
 module _ (n : ℕ) (w : List ℕ) where
   pub record Trying (at : ℕ) (r : Wiring) : Type 0 where
     pub within : at ≤ length w
-    pub stands : Stands r n (take at w)
+    pub stands : StandsFor r n (take at w)
     pub rest : follows (straight n) [] w ≡ follows (straight n) (take at w) (drop at w)
 
-  pub trying-starts : (r : Wiring) → Stands r n [] → Trying 0 r
+  pub trying-starts : (r : Wiring) → StandsFor r n [] → Trying 0 r
   trying-starts r s = record { within = omega arith; stands = s; rest = refl }
 
   module _ (at : ℕ) (r : Wiring) (k : Trying at r) where
@@ -51,20 +51,20 @@ module _ (n : ℕ) (w : List ℕ) where
     pub not-free : at < length w → (t : Bool) → t ≡ may-place r b → t ≡ false → false ≡ follows (straight n) [] w
     not-free h t is fails = sym (step h ∙ ap (λ (t : Bool). t && follows (straight n) (take (at + 1) w) (drop (at + 1) w)) (sym tested ∙ sym is ∙ fails))
 
-    pub trying-goes : at < length w → (t : Bool) → t ≡ may-place r b → t ≡ true → (r′ : Wiring) → Stands r′ (r .n) (prefix r adding b) → Trying (at + 1) r′
+    pub trying-goes : at < length w → (t : Bool) → t ≡ may-place r b → t ≡ true → (r′ : Wiring) → StandsFor r′ (r .n) (prefix r adding b) → Trying (at + 1) r′
     trying-goes h t is holds r′ s =
         let there : prefix r adding b ≡ take (at + 1) w = ap (λ (u : List ℕ). u adding b) (stands-prefix r n (take at w) (k .stands)) ∙ rw add-one (sym (take-suc w at 0 h)) in
         record {
           within = omega arith;
-          stands = subst₂ (Stands r′) (stands-n r n (take at w) (k .stands)) there s;
+          stands = subst₂ (StandsFor r′) (stands-n r n (take at w) (k .stands)) there s;
           rest = step h ∙ ap (λ (t : Bool). t && follows (straight n) (take (at + 1) w) (drop (at + 1) w)) (sym tested ∙ sym is ∙ holds);
         }
 
-    pub all-tried : length w ≤ at → (true ≡ follows (straight n) [] w) × Stands r n w
+    pub all-tried : length w ≤ at → (true ≡ follows (straight n) [] w) × StandsFor r n w
     unfolding follows
     all-tried h = (
       sym (k .rest ∙ ap (follows (straight n) (take at w)) (drop-of-length-le w h)),
-      subst (Stands r n) (take-all at w h) (k .stands),
+      subst (StandsFor r n) (take-all at w h) (k .stands),
     )
 
 -- ---- the two records, and the pair

@@ -15,7 +15,7 @@ use Rattle.rules.specs.Rules.{follows}
 use Rattle.wirings.specs.Wirings.{straight}
 use Rattle.wirings.specs.Pairs.{first-dead}
 use Rattle.partial.specs.declared.Found.{Found}
-use Rattle.partial.specs.Partial.{Stands, found}
+use Rattle.partial.specs.Partial.{StandsFor, found}
 use Rattle.probe.specs.declared.Tried.{Tried}
 
 -- the answer as one number, its place taken modulo 2^40
@@ -43,7 +43,7 @@ pub record Leaves (number : ℕ) (stored before after : List ℕ) (r : ℕ) : Ty
 -- the choices made one by one: whether each may be made, and if so the wiring that has them
 pub record Tries (n : ℕ) (w : List ℕ) (r : Tried) : Type 0 where
   pub good : r .good ≡ follows (straight n) [] w
-  pub made : r .good ≡ true → Stands (r .wiring) n w
+  pub made : r .good ≡ true → StandsFor (r .wiring) n w
 
 -- both records are accepted and have as many inputs
 unfoldable pub comparable : List ℕ → List ℕ → Bool

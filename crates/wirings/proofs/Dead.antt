@@ -12,7 +12,7 @@ use lib.Dec.{leb, eqb}
 use lib.ListN.{length, getD, length-append, List·getD-append}
 use lib.Seq.{getD-at, getD-append-add}
 use Rattle.bits.specs.Bits.{has}
-use Rattle.bits.proofs.Tests.{both, both-left, both-right, either, or-left, or-right, same-test, below-or-not, neither}
+use Rattle.bits.proofs.Tests.{both, both-left, both-right, either, or-left, or-right, same-test, below-or-not, neither, not-or, not-and}
 use Rattle.bits.proofs.Below.{any-at, any-if, any-none}
 use Rattle.cubes.specs.Cubes.{cube-names}
 use Rattle.rules.specs.Lists.{some-in}
@@ -220,16 +220,15 @@ module _ (P N P′ N′ : ℕ) where
 
 -- ---- dead
 
+-- neither separated nor to be: 01's words
+pub not-either : (s u v : Bool) → not (s || u && v) ≡ not s && (not u || not v)
+not-either s u v = not-or s (u && v) ∙ ap (λ (t : Bool). not s && t) (not-and u v)
+
 pub dead-exactly : (n : ℕ) → n ≤ 16 → (k : ℕ) (w : List ℕ) → follows (straight n) [] w ≡ true → k + length w ≡ n
     → (P N P′ N′ : ℕ) → dead n w P N P′ N′ ≡ not (some-in (λ v. separates v P N P′ N′) (completions (straight n) k w))
 unfolding dead
 dead-exactly n small k w allowed total P N P′ N′ =
-    turn (separates w P N P′ N′) (unplaced-literal n w P N) (unused-literal n w P′ N′) ∙ ap not (sym (separated-is P N P′ N′ n small k w allowed total))
-  where
-    turn : (s u v : Bool) → not s && (not u || not v) ≡ not (s || u && v)
-    turn true u v = refl
-    turn false true v = refl
-    turn false false v = refl
+    sym (not-either (separates w P N P′ N′) (unplaced-literal n w P N) (unused-literal n w P′ N′)) ∙ ap not (sym (separated-is P N P′ N′ n small k w allowed total))
 
 -- of a whole wiring, a pair is dead where it is not separated
 pub dead-whole : (n : ℕ) (w : List ℕ) → length w ≡ n → (P N P′ N′ : ℕ) → dead n w P N P′ N′ ≡ not (separates w P N P′ N′)

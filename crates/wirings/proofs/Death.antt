@@ -19,9 +19,9 @@ use Rattle.rules.proofs.Cut.{Reached, Death, whole-reached}
 use Rattle.records.specs.Records.{inputs, on-count, off-count, cubes-at, off-at, on-list, off-list}
 use Rattle.records.proofs.Frame.{Framed}
 use Rattle.wirings.specs.Wirings.{straight, wirings, phase, choices, agrees, agreeing}
-use Rattle.wirings.specs.Pairs.{separates, dead, cubes-in, side, against, Pair, pairs, of-pair, first-dead}
+use Rattle.wirings.specs.Pairs.{separates, dead, cubes-in, side, against, Pair, cube-pairs, pairs, of-pair, first-dead}
 use Rattle.wirings.proofs.Dead.{dead-exactly, dead-whole}
-use Rattle.wirings.proofs.Indexed.{of-cube, of-side}
+use Rattle.wirings.proofs.Indexed.{of-side}
 use Rattle.wirings.proofs.Agreement.{Accepted, few-inputs, agrees-separates}
 
 -- ---- the pairs: s, u, v is one exactly when s is 0 or 1, f's list s has a cube u, and the list of g against it a cube v
@@ -36,7 +36,7 @@ module _ (q : ℕ) (f g : List ℕ) where
       let k = cubes-in (side s f) in
       let m = cubes-in (side (against q s) g) in
       in-flat (of-side q f g) s (s, u, v) (upto 2) (run-in s 0 2 (omega arith) (omega (arith, h .0)))
-      (in-flat (of-cube q f g s) u (s, u, v) (upto k) (run-in u 0 k (omega arith) (omega (arith, h .1)))
+      (in-flat (cube-pairs (side (against q s) g) s) u (s, u, v) (upto k) (run-in u 0 k (omega arith) (omega (arith, h .1)))
       (in-map (λ v. (s, u, v)) v (upto m) (run-in v 0 m (omega arith) (omega (arith, h .2)))))
 
   pub pair-in : (s u v : ℕ) → In (s, u, v) (pairs q f g) → IsPair s u v
@@ -45,7 +45,7 @@ module _ (q : ℕ) (f g : List ℕ) where
       let x = flat-in (of-side q f g) (s, u, v) (upto 2) i in
       let k = cubes-in (side (x .0) f) in
       let m = cubes-in (side (against q (x .0)) g) in
-      let y = flat-in (of-cube q f g (x .0)) (s, u, v) (upto k) (x .2) in
+      let y = flat-in (cube-pairs (side (against q (x .0)) g) (x .0)) (s, u, v) (upto k) (x .2) in
       let z = map-in (λ v. (x .0, y .0, v)) (s, u, v) (upto m) (y .2) in
       subst (λ (p : Pair). IsPair (p .0) (p .1) (p .2)) (sym (z .2))
       (omega (arith, in-run (x .0) 0 2 (x .1) .1), omega (arith, in-run (y .0) 0 k (y .1) .1), omega (arith, in-run (z .0) 0 m (z .1) .1))

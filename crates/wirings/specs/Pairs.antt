@@ -44,11 +44,17 @@ carried-neg w P N = mask 8 (lands asks-zero w (length w) P N)
 -- ---- dead: no placed literal separates the cubes, and the cube of f has no literal on an unplaced input or the cube of g
 -- none on an unused one
 
+abbrev pub unplaced : List ℕ → ℕ → Bool
+unplaced w i = leb (length w) i
+
+abbrev pub unused : List ℕ → ℕ → Bool
+unused w j = not (uses w j)
+
 abbrev pub unplaced-literal : ℕ → List ℕ → ℕ → ℕ → Bool
-unplaced-literal n w P N = any n (λ i. leb (length w) i && cube-names P N i)
+unplaced-literal n w P N = any n (λ i. unplaced w i && cube-names P N i)
 
 abbrev pub unused-literal : ℕ → List ℕ → ℕ → ℕ → Bool
-unused-literal n w P′ N′ = any n (λ j. not (uses w j) && cube-names P′ N′ j)
+unused-literal n w P′ N′ = any n (λ j. unused w j && cube-names P′ N′ j)
 
 unfoldable pub dead : ℕ → List ℕ → ℕ → ℕ → ℕ → ℕ → Bool
 dead n w P N P′ N′ = not (separates w P N P′ N′) && (not (unplaced-literal n w P N) || not (unused-literal n w P′ N′))
@@ -58,6 +64,10 @@ dead n w P N P′ N′ = not (separates w P N P′ N′) && (not (unplaced-liter
 
 abbrev pub cubes-in : List ℕ → ℕ
 cubes-in l = length l / 2
+
+-- what a function of cubes gives for cube k of a list
+abbrev pub at-cube : {A : Type 0} → (ℕ → ℕ → A) → List ℕ → ℕ → A
+at-cube t l k = t (getD l (2 * k) 0) (getD l (2 * k + 1) 0)
 
 unfoldable pub side : ℕ → List ℕ → List ℕ
 side s f = cond (eqb s 0) (on-list f) (off-list f)
@@ -69,23 +79,23 @@ against q s = cond (eqb q 0) (1 - s) s
 abbrev pub Pair : Type 0
 Pair = ℕ × ℕ × ℕ
 
--- all of them, in order of s, u, v
+-- the pairs of cube u of list s with a list m of g, of each cube of a list l with it, and all of them, in order of s, u, v
+abbrev pub cube-pairs : List ℕ → ℕ → ℕ → List Pair
+cube-pairs m s u = map (λ v. (s, u, v)) (upto (cubes-in m))
+
+abbrev pub list-pairs : List ℕ → List ℕ → ℕ → List Pair
+list-pairs l m s = flatMap (cube-pairs m s) (upto (cubes-in l))
+
 unfoldable pub pairs : ℕ → List ℕ → List ℕ → List Pair
 unfolding flatMap
-pairs q f g =
-    flatMap (λ s.
-    flatMap (λ u.
-    map (λ v. (s, u, v))
-    (upto (cubes-in (side (against q s) g))))
-    (upto (cubes-in (side s f))))
-    (0 ∷ 1 ∷ [])
+pairs q f g = flatMap (λ s. list-pairs (side s f) (side (against q s) g) s) (0 ∷ 1 ∷ [])
 
--- a test of two cubes, of the pair s, u, v
+-- a test of two cubes, of a pair of two lists, and of a pair s, u, v of f and g
+abbrev pub pair-test : (ℕ → ℕ → ℕ → ℕ → Bool) → List ℕ → List ℕ → Pair → Bool
+pair-test t l m p = at-cube (at-cube t l (p .1)) m (p .2)
+
 abbrev pub of-pair : ℕ → List ℕ → List ℕ → (ℕ → ℕ → ℕ → ℕ → Bool) → Pair → Bool
-of-pair q f g t p =
-    let l = side (p .0) f in
-    let m = side (against q (p .0)) g in
-    t (getD l (2 * p .1) 0) (getD l (2 * p .1 + 1) 0) (getD m (2 * p .2) 0) (getD m (2 * p .2 + 1) 0)
+of-pair q f g t p = pair-test t (side (p .0) f) (side (against q (p .0)) g) p
 
 -- the first dead pair, in order of s, u, v
 unfoldable pub first-dead : ℕ → ℕ → List ℕ → List ℕ → List ℕ → Option Pair

@@ -9,7 +9,7 @@ use native.Mathlib.Omega.{arith}
 use Rattle.records.specs.Records.{inputs}
 use Rattle.records.proofs.Frame.{Framed}
 use Rattle.wirings.specs.Pairs.{first-dead}
-use Rattle.partial.specs.Partial.{Stands, found}
+use Rattle.partial.specs.Partial.{StandsFor, found}
 use Rattle.partial.proofs.Standing.{stands-formed, stands-prefix, stands-n}
 use Rattle.probe.specs.Probe.{comparable, Few, pair-number, dead-number}
 use Rattle.probe.proofs.Trying.{comparable-sound, few-found}
@@ -22,7 +22,7 @@ compared c = sym (c .before .comparable .ensures) ∙ not-false _ (c .if1 .left)
 
 -- after the second
 made : (c : tie.Else2) → let a = c .before .before .before .before .before .before .before .before .before .args in
-    Stands (c .before .before .try-all .result .wiring) (inputs (a .g .now)) (a .choices .now)
+    StandsFor (c .before .before .try-all .result .wiring) (inputs (a .g .now)) (a .choices .now)
 made c = c .before .before .try-all .ensures .made (not-false _ (c .if2 .left))
 
 -- the pair that is found
