@@ -112,9 +112,6 @@ module _ {A : Type 0} (t : A → Bool) where
   some-if x (y ∷ l) (inl e) p = or-left (some-in t l) (sym (ap t e) ∙ p)
   some-if x (y ∷ l) (inr i) p = or-right (t y) (some-if x l i p)
 
-  pub some-never : (l : List A) → ((x : A) → In x l → t x ≡ false) → some-in t l ≡ false
-  some-never l h = not-passed (some-in t l) (λ p. let w = some-at l p in false≢true (sym (h (w .0) (w .1)) ∙ w .2))
-
   -- each element of a list passes exactly where none fails
   pub each-at : (x : A) (l : List A) → each-in t l ≡ true → In x l → t x ≡ true
   unfolding In each-in
@@ -148,11 +145,6 @@ module _ {A : Type 0} (t : A → Bool) where
   unfolding In filter
   filter-none [] h = refl
   filter-none (x ∷ l) h = simp (h x (inl refl)) (filter-none l (λ y i. h y (inr i)))
-
-  pub count-append : (l m : List A) → count-in t (l ++ m) ≡ count-in t l + count-in t m
-  unfolding count-in
-  count-append [] m = omega arith
-  count-append (x ∷ l) m = omega (arith, count-append l m)
 
   pub count-none : (l : List A) → ((x : A) → In x l → t x ≡ false) → count-in t l ≡ 0
   unfolding In count-in
@@ -285,11 +277,6 @@ pub run-in : (k a n : ℕ) → a ≤ k → k < a + n → In k (run a n)
 unfolding In run
 run-in k a zero h g = absurd (omega arith)
 run-in k a (suc n) h g = ⊎-elim (λ (d : a < k). inr (run-in k (suc a) n (omega arith) (omega arith))) (λ (d : k ≤ a). inl (omega arith)) (below-or-not a k)
-
-pub length-run : (a n : ℕ) → length (run a n) ≡ n
-unfolding run
-length-run a zero = refl
-length-run a (suc n) = ap suc (length-run (suc a) n)
 
 -- ---- lists of numbers
 
