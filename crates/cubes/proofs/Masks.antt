@@ -1,17 +1,17 @@
 -- What the mask tests say of patterns. The idea: a cube holds x where, at each input, P ≤ x and N + x ≤ 1 as bits; the
 -- operators of the code act bit by bit, so each law is one question of arithmetic on single bits.
-use Prim.Native.Nat.{ℕ, _+_, _^_, _≤_, _<_, min, max}
+use Prim.Native.Nat.{ℕ, _+_, _-_, _^_, _≤_, _<_, min, max}
 use mathlib.Core.Path.{_≡_, sym, ap, ap₂, _∙_}
 use mathlib.Core.Bool.{Bool, true, _&&_}
 use native.Mathlib.Nat.{lt-of-le-of-lt}
 use native.Mathlib.Omega.{arith}
 use borrow.Author.Tests.{leb-true, le-leb, eqb-true, eq-eqb}
-use lib.Bits.{bitAnd, bitOr, and-le-l, and-le-r, or-lt}
+use lib.Bits.{bitAnd, bitOr, and-le-r, or-lt}
 use lib.Dec.{leb, eqb}
 use Rattle.bits.specs.Bits.{bit}
 use Rattle.bits.proofs.Tests.{both, both-left, both-right, same-test}
 use Rattle.bits.proofs.Below.{every-at, every-if, any-at, any-if}
-use Rattle.bits.proofs.Bit.{bit-le, bit-and, bit-or, bit-zero, bits-eq, bits-zero}
+use Rattle.bits.proofs.Bit.{bit-le, bit-and, bit-or, bit-not, bit-zero, bits-eq, bits-zero}
 use Rattle.cubes.specs.Cubes.{meets, cube-holds, cubes-share}
 
 -- ---- a cube holds a pattern exactly when each input is as it asks
@@ -33,25 +33,21 @@ pub holds-if : (P N x : ℕ) → ((i : ℕ) → i < 8 → Meets P N x i) → cub
 unfolding cube-holds
 holds-if P N x f = every-if (meets P N x) 8 (λ i h. both (le-leb _ _ (f i h .ones)) (le-leb _ _ (f i h .zeros)))
 
--- the test by masks
-pub holds-masks : (P N x : ℕ) → P < 2 ^ 8 → N < 2 ^ 8 → cube-holds P N x ≡ eqb (bitAnd P x) P && eqb (bitAnd N x) 0
-holds-masks P N x p n = same-test _ _ forth back
+-- a pattern is the cube that names every input as it has it: to share a pattern with that cube is to hold this one
+pub as-cube : (P N x : ℕ) → x < 2 ^ 8 → cubes-share 8 x (2 ^ 8 - 1 - x) P N ≡ cube-holds P N x
+unfolding cubes-share
+as-cube P N x h =
+    same-test _ _
+    (λ e.
+    let w = any-at (λ y. cube-holds x y′ y && cube-holds P N y) (2 ^ 8) e in
+    let y = w .0 in
+    let own = holds-at x y′ y (both-left (cube-holds x y′ y) (cube-holds P N y) (w .2)) in
+    let same : y ≡ x = bits-eq 8 y x (w .1) h (λ i l. omega (arith, own i l .ones, own i l .zeros, bit-not 8 i x h l)) in
+    ap (cube-holds P N) (sym same) ∙ both-right (cube-holds x y′ y) (cube-holds P N y) (w .2))
+    (λ e. any-if (λ y. cube-holds x y′ y && cube-holds P N y) (2 ^ 8) x h (both (holds-if x y′ x (λ i l. record { ones = omega arith; zeros = omega (arith, bit-not 8 i x h l) })) e))
   where
-    forth : cube-holds P N x ≡ true → eqb (bitAnd P x) P && eqb (bitAnd N x) 0 ≡ true
-    forth e =
-        both
-        (eq-eqb _ _ (bits-eq 8 (bitAnd P x) P (lt-of-le-of-lt (and-le-l P x) p) p (λ i h. omega (arith, bit-and i P x, holds-at P N x e i h .ones))))
-        (eq-eqb _ _ (bits-zero 8 (bitAnd N x) (lt-of-le-of-lt (and-le-l N x) n) (λ i h. omega (arith, bit-and i N x, holds-at P N x e i h .zeros))))
-
-    back : eqb (bitAnd P x) P && eqb (bitAnd N x) 0 ≡ true → cube-holds P N x ≡ true
-    back e =
-        let ones : bitAnd P x ≡ P = eqb-true _ _ (both-left (eqb (bitAnd P x) P) (eqb (bitAnd N x) 0) e) in
-        let zeros : bitAnd N x ≡ 0 = eqb-true _ _ (both-right (eqb (bitAnd P x) P) (eqb (bitAnd N x) 0) e) in
-        holds-if P N x
-        (λ i h. record {
-          ones = omega (arith, bit-and i P x, ap (bit i) ones);
-          zeros = omega (arith, bit-and i N x, ap (bit i) zeros, bit-zero i, bit-le i N, bit-le i x);
-        })
+    y′ : ℕ
+    y′ = 2 ^ 8 - 1 - x
 
 -- ---- two cubes share a pattern exactly when no input is asked to be both 1 and 0; the witness is P or P′
 

@@ -1,8 +1,6 @@
 -- Any two outcomes that a public contract allows are equal.
 use mathlib.Core.Path.{sym, _∙_}
 use Rattle.settled.specs.Settled.{Settled}
-use Rattle.cubes.proofs.holds.Kinds as holds-kinds
-use Rattle.cubes.proofs.holds.Reads as holds
 use Rattle.cubes.proofs.shares.Kinds as shares-kinds
 use Rattle.cubes.proofs.shares.Reads as shares
 use Rattle.cubes.proofs.any_holds.Kinds as any-holds-kinds
@@ -13,9 +11,6 @@ use Rattle.cubes.proofs.patterns.Kinds as patterns-kinds
 use Rattle.cubes.proofs.patterns.Reads as patterns
 use Rattle.cubes.proofs.used.Kinds as used-kinds
 use Rattle.cubes.proofs.used.Reads as used
-
-pub holds-settled : Settled 0 holds-kinds.ps holds-kinds.r holds.Post
-holds-settled κs a r₁ r₂ s₁ s₂ p q = p ∙ sym q
 
 pub shares-settled : Settled 0 shares-kinds.ps shares-kinds.r shares.Post
 shares-settled κs a r₁ r₂ s₁ s₂ p q = p ∙ sym q

@@ -3,37 +3,13 @@
 ghost use mathlib.Core.Path.{_≡_};
 ghost use Prim.Native.Nat.{ℕ, _≤_};
 ghost use Rattle.bits.specs.Bits.{has};
-ghost use Rattle.cubes.specs.Cubes.{cube-holds, cube-names, cubes-share, some-cube, some-holds, patterns-held, inputs-used};
-
-// Whether the cube holds pattern x.
-pub fn holds(pos: u8, neg: u8, x: u8) -> bool
-    ensures { λ r. ⌜ r ≡ cube-holds pos neg x ⌝ }
-{
-    if pos & x != pos {
-        return false;
-    }
-    neg & x == 0
-}
+ghost use Rattle.cubes.specs.Cubes.{cube-names, cubes-share, some-cube, some-holds, patterns-held, inputs-used};
 
 // Whether two cubes share a pattern: no input is asked to be both 1 and 0.
 pub fn shares(pos: u8, neg: u8, pos2: u8, neg2: u8) -> bool
     ensures { λ r. ⌜ r ≡ cubes-share 8 pos neg pos2 neg2 ⌝ }
 {
     (pos | pos2) & (neg | neg2) == 0
-}
-
-// Whether some cube of the list holds pattern x.
-pub fn any_holds(cubes: &[u8], x: u8) -> bool
-    ensures { λ r. ⌜ r ≡ some-holds (now (cubes .entry)) x ⌝ }
-{
-    let mut at = 0;
-    while at + 1 < cubes.len() {
-        if holds(cubes[at], cubes[at + 1], x) {
-            return true;
-        }
-        at += 2;
-    }
-    false
 }
 
 // Whether some cube of the list shares a pattern with the cube.
@@ -48,6 +24,13 @@ pub fn any_shares(pos: u8, neg: u8, cubes: &[u8]) -> bool
         at += 2;
     }
     false
+}
+
+// Whether some cube of the list holds pattern x, which is the cube that names every input as x has it.
+pub fn any_holds(cubes: &[u8], x: u8) -> bool
+    ensures { λ r. ⌜ r ≡ some-holds (now (cubes .entry)) x ⌝ }
+{
+    any_shares(x, !x, cubes)
 }
 
 // The number of patterns of n inputs that some cube of the list holds.

@@ -56,6 +56,7 @@ located w literal =
     let b = getD w (input-of literal) 0 in
     cond (inverted literal) (cond (inverted b) (b - 16) (b + 16)) b
 
+-- a cube carried over: what its placed literals ask of the inputs of g, and where one not yet placed may come to stand
 unfoldable pub carried : ℕ → List ℕ → ℕ → ℕ → Carried
 carried n w P N = record {
   pos = carried-pos w P N;
@@ -73,6 +74,7 @@ clears c P′ N′ = not (opposes c P′ N′ || any 8 (λ j. has (c .free) j &&
 
 -- ---- the first dead pair
 
+-- a pair as the struct that holds it, three zeros for none
 unfoldable pub found : Option Pair → Found
 found none = record { found = false; s = 0; u = 0; v = 0 }
 found (some p) = record { found = true; s = p .0; u = p .1; v = p .2 }

@@ -1,44 +1,15 @@
--- The walk over the list: what remains decides.
-use Prim.Native.Nat.{_-_}
-use mathlib.Core.Path.{_∙_, sym}
+-- A pattern is a cube, so that one walk serves both questions.
+use mathlib.Core.Path.{_∙_}
 use borrow.Author.Needs.{needs}
-use native.Mathlib.Omega.{arith}
-use lib.ListN.{length}
-use Rattle.cubes.specs.Cubes.{cube-holds}
-use Rattle.cubes.proofs.Lists.{Walk, walk-starts, walk-found, walk-goes, walk-ends}
+use Rattle.cubes.proofs.Masks.{as-cube}
+use Rattle.cubes.proofs.Lists.{each-all, some-same}
 use Rattle.cubes.proofs.any_holds.Statement.{statement}
 use Rattle.cubes.proofs.any_holds.Tie as tie
 
-abbrev Inv-loop : tie.InvT-loop
-Inv-loop cubes x at₀ at = Walk (λ P N. cube-holds P N x) cubes at
-
-abbrev μ-loop : tie.MeasureT-loop
-μ-loop cubes x at₀ at = length cubes - at
-
-returns : tie.Need-returns Inv-loop μ-loop
+returns : tie.Need-returns
 returns c =
-    let w = c .before .before .before .before .before in
-    sym (walk-found _ _ _ (w .loop .inv) (c .before .before .before .before .loop-test .taken) (sym (c .before .holds .ensures) ∙ c .if1 .taken))
-
-loop-again : tie.Need-loop-again Inv-loop μ-loop
-loop-again c =
-    let w = c .before .before .before .before .before in
-    walk-goes _ _ _ (w .loop .inv) (c .before .before .before .before .loop-test .taken) (sym (c .before .holds .ensures) ∙ c .if1 .left)
+    let start = c .before .before in
+    c .any-shares .ensures ∙ some-same _ _ (start .args .cubes .now) (each-all _ (λ P N. as-cube P N (start .args .x) (start .fits .x .fits)) (start .args .cubes .now))
 
 pub any-holds-spec : {M : Type 1} → statement M
-any-holds-spec =
-    tie.close
-    (tie.spec
-    Inv-loop
-    μ-loop
-    (λ c. walk-starts _ _)
-    (λ c. omega arith)
-    (λ c. omega arith)
-    (λ c. omega arith)
-    (λ c. omega arith)
-    (λ c κs. search needs)
-    returns
-    (λ c. omega arith)
-    (λ c. omega arith)
-    loop-again
-    (λ c. sym (walk-ends _ _ _ (c .before .loop .inv) (c .loop-test .left))))
+any-holds-spec = tie.close (tie.spec (λ c κs. search needs) returns)

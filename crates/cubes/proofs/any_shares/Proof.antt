@@ -1,4 +1,4 @@
--- The walk over the list, as in `any_holds`.
+-- The walk over the list: what remains decides.
 use Prim.Native.Nat.{_-_}
 use mathlib.Core.Path.{_∙_, sym}
 use borrow.Author.Needs.{needs}
