@@ -10,7 +10,7 @@ use lib.Dec.{leb, ltb, eqb}
 use lib.ListN.{length, getD}
 use Rattle.answers.specs.declared.Fault.{Fault}
 use Rattle.answers.specs.declared.Answer.{Answer}
-use Rattle.answers.specs.Answers.{fault, sound, refused, _then_, _or-else_, by, byte-fault, length-fault}
+use Rattle.answers.specs.Answers.{fault, sound, is-sound, refused, _then_, _or-else_, by, byte-fault, length-fault}
 
 -- a fault that was found is what the definition says: both are sound, or neither is
 pub sound-as : {f g : Fault} → f ≡ g → f .code ≡ 0 → g .code ≡ 0
@@ -44,6 +44,21 @@ then-next f g = next-chosen (f .code) g f
 pub then-stop : (f g : Fault) → (f .code ≡ 0 → ⊥) → f then g ≡ f
 unfolding _then_
 then-stop f g = this-chosen (f .code) g f
+
+pub then-assoc : (f g h : Fault) → f then g then h ≡ f then (g then h)
+unfolding _then_
+then-assoc f g h = go (eqb (f .code) 0) refl
+  where
+    go : (t : Bool) → eqb (f .code) 0 ≡ t → cond (is-sound (cond t g f)) h (cond t g f) ≡ cond t (cond (is-sound g) h g) f
+    go true e = refl
+    go false e = simp e refl
+
+-- as a function meets them: f is the fault that it found, and g what the definition says
+pub then-met : (f g h r : Fault) → f ≡ g → f .code ≡ 0 → r ≡ h → r ≡ g then h
+then-met f g h r e z k = k ∙ sym (then-next g h (sound-as e z))
+
+pub then-ends : (f g h : Fault) → f ≡ g → (f .code ≡ 0 → ⊥) → f ≡ g then h
+then-ends f g h e bad = e ∙ sym (then-stop g h (bad-as e bad))
 
 -- the same of answers, as a function meets them: f is the fault that it found, and g what the definition says
 pub by-next : (who : ℕ) (f g : Fault) (a next : Answer) → f ≡ g → f .code ≡ 0 → a ≡ next → a ≡ by who g next
@@ -86,6 +101,11 @@ by-both who f next = chosen (λ (a : Answer). a .code) (f .code) next (refused (
 pub or-else-both : (a b : Answer) → (a or-else b) .code ≡ 0 → (a .code ≡ 0) × (b .code ≡ 0)
 unfolding _or-else_
 or-else-both a b = chosen (λ (a : Answer). a .code) (a .code) b a refl
+
+-- a test that gives no fault passes
+pub test-sound : (t : Bool) (code at : ℕ) → cond t sound (fault (suc code) at) .code ≡ 0 → t ≡ true
+test-sound true code at e = refl
+test-sound false code at e = absurd (omega (arith, e))
 
 -- a header byte that is sound is there, and from low to high
 pub record Byte (s : List ℕ) (k low high : ℕ) : Type 0 where

@@ -20,6 +20,10 @@ accepted kind place = record { code = 0; kind = kind; «record» = 0; place = pl
 abbrev pub refused : ℕ → ℕ → ℕ → Answer
 refused code who place = record { code = code; kind = 0; «record» = who; place = place }
 
+-- nothing is refused so far
+abbrev pub fine : Answer
+fine = accepted 3 0
+
 -- a fault: its code, and its place in the bytes that were read; code 0 says that there is none
 abbrev pub fault : ℕ → ℕ → Fault
 fault code place = record { code = code; place = place }
@@ -42,10 +46,13 @@ by who f next = cond (is-sound f) next (refused (f .code) who (f .place))
 unfoldable pub _or-else_ : Answer → Answer → Answer
 a or-else b = cond (eqb (a .code) 0) b a
 
--- byte k of a header: missing gives 1 at the length, before any test of it; outside low to high gives the code
+-- byte k has to be there: missing gives 1 at the length, before any test of it
+abbrev pub present : List ℕ → ℕ → Fault → Fault
+present s k tested = cond (leb (length s) k) (fault 1 (length s)) tested
+
+-- byte k of a header: outside low to high gives the code
 unfoldable pub byte-fault : List ℕ → ℕ → ℕ → ℕ → ℕ → Fault
-byte-fault s k low high code =
-    cond (leb (length s) k) (fault 1 (length s)) (cond (leb low (getD s k 0) && leb (getD s k 0) high) sound (fault code k))
+byte-fault s k low high code = present s k (cond (leb low (getD s k 0) && leb (getD s k 0) high) sound (fault code k))
 
 -- the length has to be just `end`: 1 where the bytes end too early, 8 where bytes follow
 unfoldable pub length-fault : ℕ → ℕ → Fault

@@ -3,3 +3,4 @@ pub mod Standing
 pub mod Carrying
 pub mod Rows
 pub mod Settled
+pub mod Whole

@@ -13,6 +13,8 @@ use Rattle.probe.proofs.probe_fault.Kinds as probe-fault-kinds
 use Rattle.probe.proofs.probe_fault.Reads as probe-fault
 use Rattle.probe.proofs.probe_dead.Kinds as probe-dead-kinds
 use Rattle.probe.proofs.probe_dead.Reads as probe-dead
+use Rattle.probe.proofs.probe_check.Kinds as probe-check-kinds
+use Rattle.probe.proofs.probe_check.Reads as probe-check
 
 -- the number, and the lent slice afterwards
 pub probe-read-settled : SettledAs 2 probe-read-kinds.ps probe-read-kinds.r (λ κs. ℕ × List ℕ) (λ κs x s. (x, s .1 .0 .now)) probe-read.Post
@@ -29,3 +31,6 @@ probe-fault-settled κs a r₁ r₂ s₁ s₂ p q i = ((p .returned ∙ sym (q .
 
 pub probe-dead-settled : Settled 3 probe-dead-kinds.ps probe-dead-kinds.r probe-dead.Post
 probe-dead-settled κs a r₁ r₂ s₁ s₂ p q = p ∙ sym q
+
+pub probe-check-settled : Settled 3 probe-check-kinds.ps probe-check-kinds.r probe-check.Post
+probe-check-settled κs a r₁ r₂ s₁ s₂ p q = p ∙ sym q

@@ -1,15 +1,14 @@
 // Exported functions for tests alone: each hands a public call's answer over as one number.
 ghost use mathlib.Core.Path.{_≡_};
-ghost use Prim.Native.Nat.{_≤_};
 ghost use mathlib.Core.List.{[], _∷_};
 ghost use lib.ListN.{length};
 ghost use Rattle.answers.specs.Answers.{buffer-after};
 ghost use Rattle.records.specs.Records.{reading, summing, bytes-at-fault};
 ghost use Rattle.writer.specs.Writing.{writing, record-bytes};
-ghost use Rattle.probe.specs.Probe.{packed-mod, stored-if-room, counts-of, figures-of, Leaves, Tries, comparable, Few, pair-number, dead-number};
+ghost use Rattle.checker.specs.Checking.{checking};
+ghost use Rattle.probe.specs.Probe.{packed-mod, stored-if-room, counts-of, figures-of, Leaves, Few, pair-number, dead-number};
 use answers::Answer;
 use partial::Found;
-use partial::Wiring;
 
 fn packed_mod(answer: Answer) -> u64
     ensures { λ r. ⌜ r ≡ packed-mod answer ⌝ }
@@ -81,46 +80,6 @@ pub extern "C" fn probe_fault<'a>(f: &'a [u8], g: &'a [u8], out: &mut [u8]) -> u
     len as u64
 }
 
-// The wiring with the choices tried so far, and whether all of them may be made.
-pub struct Tried {
-    pub good: bool,
-    pub wiring: Wiring,
-}
-
-// Makes the choices one by one, up to the first that may not be made.
-fn try_all(n: u8, choices: &[u8]) -> Tried
-    requires { ⌜ n ≤ 8 ⌝ }
-    ensures { λ r. ⌜ Tries n (now (choices .entry)) r ⌝ }
-{
-    let mut wiring = Wiring::start(n);
-    let mut at = 0;
-    while at < choices.len() {
-        let choice = choices[at];
-        if !wiring.free(choice) {
-            return Tried {
-                good: false,
-                wiring,
-            };
-        }
-        wiring = wiring.place(choice);
-        at += 1;
-    }
-    Tried { good: true, wiring }
-}
-
-// Whether both records are accepted and have as many inputs.
-fn comparable(f: &[u8], g: &[u8]) -> bool
-    ensures { λ r. ⌜ r ≡ comparable (now (f .entry)) (now (g .entry)) ⌝ }
-{
-    if records::record_fault(f).code != 0 {
-        return false;
-    }
-    if records::record_fault(g).code != 0 {
-        return false;
-    }
-    f[2] == g[2]
-}
-
 // A pair as a number.
 fn pair_number(pair: Found) -> u64
     requires { ⌜ Few pair ⌝ }
@@ -138,12 +97,19 @@ fn pair_number(pair: Found) -> u64
 pub extern "C" fn probe_dead(f: &[u8], g: &[u8], choices: &[u8], q: u8) -> u64
     ensures { λ r. ⌜ r ≡ dead-number (now (f .entry)) (now (g .entry)) (now (choices .entry)) q ⌝ }
 {
-    if !comparable(f, g) {
+    if records::both(f, g).code != 0 {
         return 0;
     }
-    let made = try_all(g[2], choices);
-    if !made.good {
+    let read = checker::wire(g[2], choices, 0);
+    if read.fault.code != 0 {
         return 0;
     }
-    pair_number(made.wiring.first_dead(f, g, q))
+    pair_number(read.wiring.first_dead(f, g, q))
+}
+
+#[no_mangle]
+pub extern "C" fn probe_check(f: &[u8], g: &[u8], claim: &[u8]) -> u64
+    ensures { λ r. ⌜ r ≡ packed-mod (checking (now (f .entry)) (now (g .entry)) (now (claim .entry))) ⌝ }
+{
+    packed_mod(checker::check(f, g, claim))
 }

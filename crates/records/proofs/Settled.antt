@@ -17,6 +17,8 @@ use Rattle.records.proofs.on_list.Kinds as on-list-kinds
 use Rattle.records.proofs.on_list.Reads as on-list
 use Rattle.records.proofs.off_list.Kinds as off-list-kinds
 use Rattle.records.proofs.off_list.Reads as off-list
+use Rattle.records.proofs.both.Kinds as both-kinds
+use Rattle.records.proofs.both.Reads as both
 use Rattle.records.proofs.at_fault.Kinds as at-fault-kinds
 use Rattle.records.proofs.at_fault.Reads as at-fault
 
@@ -34,6 +36,9 @@ read-settled κs a r₁ r₂ s₁ s₂ p q = p ∙ sym q
 
 pub summary-settled : Settled 1 summary-kinds.ps summary-kinds.r summary.Post
 summary-settled κs a r₁ r₂ s₁ s₂ p q = p ∙ sym q
+
+pub both-settled : Settled 2 both-kinds.ps both-kinds.r both.Post
+both-settled κs a r₁ r₂ s₁ s₂ p q = p ∙ sym q
 
 -- of a part that is handed back, its bytes are seen
 pub on-list-settled : SettledAs 1 on-list-kinds.ps on-list-kinds.r (λ κs. List ℕ) (λ κs x s. x .now) on-list.Post

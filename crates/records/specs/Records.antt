@@ -9,7 +9,7 @@ use Rattle.bits.specs.Bits.{has, any}
 use Rattle.cubes.specs.Cubes.{cube-names, cubes-share, some-cube, patterns-held, inputs-used}
 use Rattle.answers.specs.declared.Answer.{Answer}
 use Rattle.answers.specs.declared.Fault.{Fault}
-use Rattle.answers.specs.Answers.{accepted, refused, fault, sound, is-sound, byte-fault, length-fault, _then_}
+use Rattle.answers.specs.Answers.{accepted, refused, fine, fault, sound, is-sound, byte-fault, length-fault, _then_, by}
 use Rattle.records.specs.declared.Reading.{Reading}
 use Rattle.records.specs.declared.Figures.{Figures}
 
@@ -104,6 +104,11 @@ summing s =
     cond (is-sound (record-fault s))
     (with-figures (accepted 3 (length s)) (patterns-held (inputs s) (on-list s)) (patterns-held (inputs s) (off-list s)) (inputs-used (on-list s) (off-list s)))
     (with-figures (refusal s) 0 0 0)
+
+-- ---- two functions: f, then g, then whether they have as many inputs
+
+unfoldable pub both-read : List ℕ → List ℕ → Answer
+both-read f g = by 1 (record-fault f) (by 2 (record-fault g) (cond (eqb (inputs f) (inputs g)) fine (refused 9 2 2)))
 
 -- ---- the bytes at fault: the two bytes of a cube for codes 5, 6 and 7
 

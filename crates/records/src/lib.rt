@@ -4,7 +4,7 @@ ghost use mathlib.Core.Path.{_≡_};
 ghost use Prim.Native.Nat.{_≤_};
 ghost use lib.ListN.{length, drop};
 ghost use denote.Ref.{ptr};
-ghost use Rattle.records.specs.Records.{cube-code, clash-code, first-fault, header-fault, record-fault, reading, summing};
+ghost use Rattle.records.specs.Records.{cube-code, clash-code, first-fault, header-fault, record-fault, reading, summing, both-read};
 ghost use Rattle.records.specs.Records.{record-end, on-list as on-bytes, off-list as off-bytes, is-cubes, AtFault};
 use answers::Answer;
 use answers::Fault;
@@ -173,6 +173,24 @@ pub fn summary(s: &[u8]) -> Figures
         off: cubes::patterns(off, s[2]),
         used: cubes::used(on, off),
     }
+}
+
+// Whether two records are accepted and have as many inputs: the faults of f, then those of g, then 9.
+pub fn both(f: &[u8], g: &[u8]) -> Answer
+    ensures { λ r. ⌜ r ≡ both-read (now (f .entry)) (now (g .entry)) ⌝ }
+{
+    let in_f = record_fault(f);
+    if in_f.code != 0 {
+        return answers::refused(in_f.code, 1, in_f.place);
+    }
+    let in_g = record_fault(g);
+    if in_g.code != 0 {
+        return answers::refused(in_g.code, 2, in_g.place);
+    }
+    if f[2] != g[2] {
+        return answers::refused(9, 2, 2);
+    }
+    answers::accepted(3, 0)
 }
 
 // Whether the fault is a cube's: code 5, 6 or 7.

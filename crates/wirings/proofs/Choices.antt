@@ -100,6 +100,11 @@ from-at j (suc k) (suc (suc c)) h =
 pub choices-at : (n c : ℕ) → c < 2 * n → drop c (choices-from 0 n) ≡ choice-at c ∷ drop (c + 1) (choices-from 0 n)
 choices-at n c h = rw add-one (from-at 0 n c h ∙ ap (λ (m : ℕ). choice-at m ∷ drop (suc c) (choices-from 0 n)) (omega arith))
 
+pub choices-length : (j k : ℕ) → length (choices-from j k) ≡ 2 * k
+unfolding choices-from
+choices-length j zero = refl
+choices-length j (suc k) = omega (arith, choices-length (suc j) k)
+
 -- and is a choice of n inputs
 pub choice-at-is : (n : ℕ) → n ≤ 16 → (c : ℕ) → c < 2 * n → is-choice n (choice-at c) ≡ true
 choice-at-is n small c h = ⊎-elim (λ (e : c % 2 < 1). choice-test n (choice-at c) (inl (omega arith))) (λ (e : 1 ≤ c % 2). choice-test n (choice-at c) (inr (omega arith))) (below-or-not (c % 2) 1)

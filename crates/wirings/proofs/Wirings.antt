@@ -79,12 +79,12 @@ wirings-rise n small =
 -- ---- each wiring, and nothing else
 
 -- a wiring: a phase, and n choices that may follow one another
-wiring-is : (n q : ℕ) (w : List ℕ) → is-wiring n (q ∷ w) ≡ ltb q 2 && eqb (length w) n && follows (straight n) [] w
+pub wiring-is : (n q : ℕ) (w : List ℕ) → is-wiring n (q ∷ w) ≡ ltb q 2 && eqb (length w) n && follows (straight n) [] w
 unfolding is-wiring
 wiring-is n q w = and-assoc (ltb q 2 && eqb (length w) n) (each-in (is-choice n) w) (apart w) ∙ ap (λ (t : Bool). ltb q 2 && eqb (length w) n && t) (sym (follows-is n w))
 
 -- the list has every wiring, and only wirings
-wiring-in : (n : ℕ) (v : List ℕ) → is-wiring n v ≡ true → In v (wirings n)
+pub wiring-in : (n : ℕ) (v : List ℕ) → is-wiring n v ≡ true → In v (wirings n)
 unfolding is-wiring wirings run
 wiring-in n [] e = absurd (false≢true e)
 wiring-in n (q ∷ w) e =

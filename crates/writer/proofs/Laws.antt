@@ -12,10 +12,10 @@ use Rattle.answers.specs.declared.Answer.{Answer}
 use Rattle.cubes.proofs.Lists.{Each}
 use Rattle.records.specs.Records.{cube-code, clash-code}
 use Rattle.records.proofs.Cubes.{first-each, each-first}
-use Rattle.answers.specs.Answers.{accepted, refused, sound}
+use Rattle.answers.specs.Answers.{fine, accepted, refused, sound}
 use Rattle.answers.proofs.Faults.{by-both, by-next}
 use Rattle.answers.proofs.Stores.{sets-join}
-use Rattle.writer.specs.Writing.{record-bytes, fine, few, sizes, cubes, fits}
+use Rattle.writer.specs.Writing.{record-bytes, few, sizes, cubes, fits}
 
 pub record Sized (n : ℕ) (on off : List ℕ) : Type 0 where
   pub least : 1 ≤ n

@@ -6,16 +6,12 @@ use mathlib.Core.List.{List, _∷_, _++_}
 use lib.Dec.{ltb, eqb}
 use lib.ListN.{length}
 use Rattle.answers.specs.declared.Answer.{Answer}
-use Rattle.answers.specs.Answers.{accepted, refused, by, _or-else_}
+use Rattle.answers.specs.Answers.{accepted, fine, refused, by, _or-else_}
 use Rattle.records.specs.Records.{first-fault, cube-code, clash-code}
 
 -- the record's bytes, from n and the two lists of cube bytes
 unfoldable pub record-bytes : ℕ → List ℕ → List ℕ → List ℕ
 record-bytes n on off = 0x46 ∷ 0x4E ∷ n ∷ length on / 2 ∷ length off / 2 ∷ on ++ off
-
--- nothing is refused so far
-abbrev pub fine : Answer
-fine = accepted 3 0
 
 -- no list has more than 64 cubes
 unfoldable pub few : List ℕ → List ℕ → Answer

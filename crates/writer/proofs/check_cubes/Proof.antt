@@ -3,11 +3,11 @@ use mathlib.Core.Path.{_≡_, _∙_, sym}
 use borrow.Author.Needs.{needs}
 use native.Mathlib.Omega.{arith}
 use Rattle.answers.specs.declared.Answer.{Answer}
-use Rattle.answers.specs.Answers.{by}
+use Rattle.answers.specs.Answers.{fine, by}
 use Rattle.answers.proofs.Faults.{sound-as, by-next, by-stop}
 use Rattle.records.specs.Records.{first-fault, clash-code}
 use Rattle.records.proofs.Cubes.{clean-list, clash-width}
-use Rattle.writer.specs.Writing.{fine, cubes}
+use Rattle.writer.specs.Writing.{cubes}
 use Rattle.writer.proofs.check_cubes.Statement.{statement}
 use Rattle.writer.proofs.check_cubes.Tie as tie
 

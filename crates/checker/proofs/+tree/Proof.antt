@@ -1,0 +1,103 @@
+-- Each call has one input less to be placed; the loop goes through the choices, and what is left to be read of the split's trees
+-- is the whole answer.
+use Prim.Native.Nat.{ℕ, _-_, _*_, _<_}
+use mathlib.Core.Path.{sym, _∙_}
+use native.Mathlib.Omega.{arith}
+use borrow.Author.Needs.{needs}
+use borrow.Author.Tests.{not-true, not-false}
+use borrow.Fn.Kinds.{In}
+use borrow.Fn.PlainCycle.{Measures, is, falls, and}
+use Rattle.checker.proofs.Children.{tree-short, tree-closing, tree-deep, tree-split, depth-is, left-over, less-left, Reading, passed-over, child-read, child-refused, all-read}
+use Rattle.checker.proofs.tree.Reads as tree
+use Rattle.checker.proofs.tree.Kinds as tree-kinds
+use Rattle.checker.proofs.+tree.Lts-tree as tree-lts
+use Rattle.checker.proofs.closing.Reads as closing
+use Rattle.partial.proofs.Wiring.free.Reads as free
+use Rattle.partial.proofs.Wiring.place.Reads as place
+use Rattle.partial.proofs.choice.Reads as choice
+use Rattle.checker.proofs.+tree.{statement}
+use Rattle.checker.proofs.+tree.Tie.{close}
+
+-- the inputs that are unplaced
+abbrev μ-tree : Measures 3 tree-kinds.ps ℕ
+μ-tree κs a = a .0 .n - a .0 .depth
+
+abbrev tree-at : ℕ → In 3 tree-kinds.ps
+tree-at t = and 3 tree-kinds.ps (is 3 tree-kinds.ps μ-tree t) tree.Pre
+
+abbrev tree-below : ℕ → In 3 tree-kinds.ps
+tree-below t = and 3 tree-kinds.ps (falls 3 tree-kinds.ps _<_ μ-tree t) tree.Pre
+
+abbrev tree-Inv-loop : tree-lts.InvT-loop
+tree-Inv-loop w q f g claim start next₀ c₀ next c = Reading w q f g claim start c next
+
+abbrev tree-μ-loop : tree-lts.MeasureT-loop
+tree-μ-loop w q f g claim start next₀ c₀ next c = 2 * w .n - c
+
+pub +tree-spec : {M : Type 1} → statement M
++tree-spec = close μ-tree λ t. tree-lts.spec (
+  closing.Asked,
+  closing.Learnt,
+  choice.Asked,
+  choice.Learnt,
+  free.Asked,
+  free.Learnt,
+  place.Asked,
+  place.Learnt,
+  tree-below t,
+  tree.Post,
+)
+    (tree-at t)
+    tree.Post
+    tree-Inv-loop
+    tree-μ-loop
+    (λ c. tree-short _ _ _ _ _ _ _ (c .if1 .taken))
+    (λ c. omega arith)
+    (λ c κs. c .before .before .before .before .before .before .pre .1)
+    (λ c. c .closing .ensures ∙ tree-closing _ _ _ _ _ _ _ (c .before .before .before .if1 .left) (c .before .if2 .taken))
+    (λ c.
+    let start = c .before .before .before .before .before .before .before .before in
+    let a = start .args in
+    tree-deep _ _ _ _ _ _ _ (c .before .before .before .before .if1 .left) (c .before .before .if2 .left) (depth-is (a .w) (a .q) (a .f .now) (a .g .now) (a .claim .now) (start .pre .1 .0) ∙ c .if3 .taken))
+    (λ c. omega arith)
+    (λ c.
+    let start = c .before .before .before .before .before .before .before .before in
+    let a = start .args in
+    record {
+      within = omega arith;
+      rest = tree-split _ _ _ _ _ _ _ (c .before .before .before .before .if1 .left) (c .before .before .if2 .left) (left-over (a .w) (a .q) (a .f .now) (a .g .now) (a .claim .now) (start .pre .1 .0) (c .if3 .left));
+    })
+    (λ c. omega (arith, c .before .before .before .before .before .before .before .before .before .before .pre .1 .0 .few))
+    (λ c κs. search needs)
+    (λ c. omega (arith, c .before .before .before .before .before .before .before .before .before .before .before .before .pre .1 .0 .few))
+    (λ c κs. c .before .before .before .before .before .before .before .before .before .before .before .before .pre .1 .0)
+    (λ c. omega arith)
+    (λ c.
+    let test = c .before .before .before in
+    passed-over _ _ _ _ _ (test .before .before .before .before .before .before .before .before .before .before .before .pre .1 .0) _ _ _ _
+    (test .before .before .loop .inv) (test .if4 .taken) (c .before .before .choice .ensures) (sym (c .before .free .ensures) ∙ not-true _ (c .if5 .taken)))
+    (λ c κs.
+    let start = c .before .before .before .before .before .before .before .before .before .before .before .before .before .before in
+    (start .pre .1 .0, sym (c .before .free .ensures) ∙ not-false _ (c .if5 .left)))
+    (λ c κs.
+    let over = c .before .before .before .before .before .before .before in
+    let start = over .before .before .before .before .before .before .before .before in
+    let a = start .args in
+    let more = left-over (a .w) (a .q) (a .f .now) (a .g .now) (a .claim .now) (start .pre .1 .0) (over .if3 .left) in
+    (omega (arith, start .pre .0, less-left (a .w) (a .q) (a .f .now) (a .g .now) (a .claim .now) (start .pre .1 .0) more _ _ (c .place .ensures .0)), (c .place .ensures .1, start .pre .1 .1)))
+    (λ c.
+    let test = c .before .before .before .before .before .before .before in
+    child-refused _ _ _ _ _ (test .before .before .before .before .before .before .before .before .before .before .before .pre .1 .0) _ _ _ _
+    (test .before .before .loop .inv) (test .if4 .taken) (c .before .before .before .before .before .before .choice .ensures)
+    (sym (c .before .before .before .before .before .free .ensures) ∙ not-false _ (c .before .before .before .before .if5 .left)) _ (c .before .before .before .place .ensures .0) _
+    (c .before .before .tree .ensures) (c .if6 .taken))
+    (λ c. omega arith)
+    (λ c.
+    let test = c .before .before .before .before .before .before .before in
+    child-read _ _ _ _ _ (test .before .before .before .before .before .before .before .before .before .before .before .pre .1 .0) _ _ _ _
+    (test .before .before .loop .inv) (test .if4 .taken) (c .before .before .before .before .before .before .choice .ensures)
+    (sym (c .before .before .before .before .before .free .ensures) ∙ not-false _ (c .before .before .before .before .if5 .left)) _ (c .before .before .before .place .ensures .0) _
+    (c .before .before .tree .ensures) (c .if6 .left))
+    (λ c.
+    let start = c .before .before .before .before .before .before .before .before .before .before .before in
+    all-read _ _ _ _ _ (start .pre .1 .0) _ _ _ (c .before .before .loop .inv) (c .if4 .left))

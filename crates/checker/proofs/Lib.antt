@@ -1,0 +1,5 @@
+pub mod Making
+pub mod Closings
+pub mod Children
+pub mod Exact
+pub mod Settled

@@ -1,0 +1,256 @@
+// The checker: two function records and a claim of any content and length. Bytes are read in the order of document 01, and
+// the first fault is the answer.
+ghost use mathlib.Core.Path.{_≡_};
+ghost use Prim.Native.Nat.{_≤_, _<_};
+ghost use lib.ListN.{length, drop};
+ghost use Rattle.records.specs.Records.{record-end};
+ghost use Rattle.wirings.specs.Pairs.{cubes-in, pair-test, dead};
+ghost use Rattle.wirings.proofs.Agreement.{Accepted};
+ghost use Rattle.partial.specs.Partial.{prefix, Formed};
+ghost use Rattle.checker.specs.Checking.{header-fault, Wires, match-fault, index-fault, closing-fault, tree-fault, refusal-fault, claim-fault, checking};
+use answers::Answer;
+use answers::Fault;
+use partial::Wiring;
+
+// A wiring with the choices that were read, up to the first fault.
+pub struct Wired {
+    pub fault: Fault,
+    pub wiring: Wiring,
+}
+
+// The second byte of the mark, and n.
+fn header_fault(claim: &[u8], mark: u8, n: u8) -> Fault
+    ensures { λ r. ⌜ r ≡ header-fault (now (claim .entry)) mark n ⌝ }
+{
+    answers::then_byte(
+        answers::byte_fault(claim, 1, mark, mark, 2),
+        claim,
+        2,
+        n,
+        n,
+        10,
+    )
+}
+
+// Reads the choices of n inputs from `from` to the end of the bytes, and makes them one by one.
+pub fn wire(n: u8, bytes: &[u8], from: usize) -> Wired
+    requires { ⌜ n ≤ 8 ⌝ }
+    requires { ⌜ from ≤ length (now bytes) ⌝ }
+    ensures { λ r. ⌜ Wires n (drop from (now (bytes .entry))) from r ⌝ }
+{
+    let mut wiring = Wiring::start(n);
+    let mut at = from;
+    while at < bytes.len() {
+        let choice = bytes[at];
+        if !partial::is_choice(n, choice) {
+            return Wired {
+                fault: Fault {
+                    code: 12,
+                    place: at,
+                },
+                wiring,
+            };
+        }
+        if !wiring.free(choice) {
+            return Wired {
+                fault: Fault {
+                    code: 13,
+                    place: at,
+                },
+                wiring,
+            };
+        }
+        wiring = wiring.place(choice);
+        at += 1;
+    }
+    Wired {
+        fault: Fault { code: 0, place: 0 },
+        wiring,
+    }
+}
+
+// A match claim: its length, q, its choices, and last whether the wiring agrees, which it does if it leaves no dead pair.
+fn match_fault(f: &[u8], g: &[u8], claim: &[u8]) -> Fault
+    requires { ⌜ Accepted (now f) (now g) ⌝ }
+    ensures { λ r. ⌜ r ≡ match-fault (now (f .entry)) (now (g .entry)) (now (claim .entry)) ⌝ }
+{
+    let n = g[2];
+    let header = header_fault(claim, 0x54, n);
+    if header.code != 0 {
+        return header;
+    }
+    let end = answers::length_fault(claim.len(), 4 + n as usize);
+    let phase = answers::then_byte(end, claim, 3, 0, 1, 11);
+    if phase.code != 0 {
+        return phase;
+    }
+    let read = wire(n, claim, 4);
+    let choices = read.fault;
+    if choices.code != 0 {
+        return choices;
+    }
+    if read.wiring.first_dead(f, g, claim[3]).found {
+        return Fault { code: 14, place: 0 };
+    }
+    Fault { code: 0, place: 0 }
+}
+
+// Byte k has to be an index into a list of so many cubes.
+fn index_fault(claim: &[u8], k: usize, number: usize) -> Fault
+    ensures { λ r. ⌜ r ≡ index-fault (now (claim .entry)) k number ⌝ }
+{
+    if claim.len() <= k {
+        return Fault {
+            code: 1,
+            place: claim.len(),
+        };
+    }
+    if (claim[k] as usize) < number {
+        return Fault { code: 0, place: 0 };
+    }
+    Fault { code: 15, place: k }
+}
+
+// Whether cube u of a list of f and cube v of a list of g are a dead pair.
+fn pair_dead(w: Wiring, ours: &[u8], theirs: &[u8], u: u8, v: u8) -> bool
+    requires { ⌜ Formed w ⌝ }
+    requires { ⌜ u < cubes-in (now ours) ⌝ }
+    requires { ⌜ v < cubes-in (now theirs) ⌝ }
+    ensures { λ r. ⌜ r ≡ pair-test (dead (w .n) (prefix w)) (now (ours .entry)) (now (theirs .entry)) (0, u, v) ⌝ }
+{
+    let i = 2 * (u as usize);
+    let j = 2 * (v as usize);
+    w.dead(ours[i], ours[i + 1], theirs[j], theirs[j + 1])
+}
+
+// A closing: s, then u, then v, then whether the pair is dead.
+fn closing(w: Wiring, q: u8, f: &[u8], g: &[u8], claim: &[u8], at: usize) -> Fault
+    requires { ⌜ Formed w ⌝ }
+    requires { ⌜ record-end (now f) ≡ length (now f) ⌝ }
+    requires { ⌜ record-end (now g) ≡ length (now g) ⌝ }
+    ensures { λ r. ⌜ r ≡ closing-fault (w .n) q (now (f .entry)) (now (g .entry)) (now (claim .entry)) (prefix w) at ⌝ }
+{
+    let node = answers::byte_fault(claim, at, 0, 1, 15);
+    if node.code != 0 {
+        return node;
+    }
+    let ours = partial::side(f, claim[at]);
+    let theirs = partial::side(g, partial::against(q, claim[at]));
+    let first = index_fault(claim, at + 1, ours.len() / 2);
+    if first.code != 0 {
+        return first;
+    }
+    let second = index_fault(claim, at + 2, theirs.len() / 2);
+    if second.code != 0 {
+        return second;
+    }
+    if !pair_dead(w, ours, theirs, claim[at + 1], claim[at + 2]) {
+        return Fault {
+            code: 17,
+            place: at,
+        };
+    }
+    Fault {
+        code: 0,
+        place: at + 3,
+    }
+}
+
+// The tree at a place: a closing, or a split into the trees of the free choices for the next input, each read by this function
+// with one input less to be placed.
+fn tree(w: Wiring, q: u8, f: &[u8], g: &[u8], claim: &[u8], start: usize) -> Fault
+    requires { ⌜ Formed w ⌝ }
+    requires { ⌜ record-end (now f) ≡ length (now f) ⌝ }
+    requires { ⌜ record-end (now g) ≡ length (now g) ⌝ }
+    ensures { λ r. ⌜ r ≡ tree-fault (w .n) q (now (f .entry)) (now (g .entry)) (now (claim .entry)) (prefix w) start ⌝ }
+{
+    if claim.len() <= start {
+        return Fault {
+            code: 1,
+            place: claim.len(),
+        };
+    }
+    if claim[start] != 0xFF {
+        return closing(w, q, f, g, claim, start);
+    }
+    if w.depth == w.n {
+        return Fault {
+            code: 16,
+            place: start,
+        };
+    }
+    let mut next = start + 1;
+    let mut c = 0u8;
+    while c < 2 * w.n {
+        let choice = partial::choice(c);
+        c += 1;
+        if !w.free(choice) {
+            continue;
+        }
+        let child = tree(w.place(choice), q, f, g, claim, next);
+        if child.code != 0 {
+            return child;
+        }
+        next = child.place;
+    }
+    Fault {
+        code: 0,
+        place: next,
+    }
+}
+
+// A refusal claim: a tree for q = 0, a tree for q = 1, and nothing after them.
+fn refusal_fault(f: &[u8], g: &[u8], claim: &[u8]) -> Fault
+    requires { ⌜ Accepted (now f) (now g) ⌝ }
+    ensures { λ r. ⌜ r ≡ refusal-fault (now (f .entry)) (now (g .entry)) (now (claim .entry)) ⌝ }
+{
+    let n = g[2];
+    let header = header_fault(claim, 0x46, n);
+    if header.code != 0 {
+        return header;
+    }
+    let first = tree(Wiring::start(n), 0, f, g, claim, 3);
+    if first.code != 0 {
+        return first;
+    }
+    let second = tree(Wiring::start(n), 1, f, g, claim, first.place);
+    if second.code != 0 {
+        return second;
+    }
+    answers::length_fault(claim.len(), second.place)
+}
+
+// A claim: the first byte of its mark decides the kind.
+fn claim_fault(f: &[u8], g: &[u8], claim: &[u8]) -> Fault
+    requires { ⌜ Accepted (now f) (now g) ⌝ }
+    ensures { λ r. ⌜ r ≡ claim-fault (now (f .entry)) (now (g .entry)) (now (claim .entry)) ⌝ }
+{
+    if claim.len() == 0 {
+        return Fault { code: 1, place: 0 };
+    }
+    if claim[0] == 0x4D {
+        return match_fault(f, g, claim);
+    }
+    if claim[0] == 0x52 {
+        return refusal_fault(f, g, claim);
+    }
+    Fault { code: 2, place: 0 }
+}
+
+// Checks a claim on two functions: kind 1 where a match is accepted, 2 where a refusal is.
+pub fn check(f: &[u8], g: &[u8], claim: &[u8]) -> Answer
+    ensures { λ r. ⌜ r ≡ checking (now (f .entry)) (now (g .entry)) (now (claim .entry)) ⌝ }
+{
+    let both = records::both(f, g);
+    if both.code != 0 {
+        return both;
+    }
+    let fault = claim_fault(f, g, claim);
+    if fault.code != 0 {
+        return answers::refused(fault.code, 3, fault.place);
+    }
+    if claim[0] == 0x4D {
+        return answers::accepted(1, claim.len());
+    }
+    answers::accepted(2, claim.len())
+}

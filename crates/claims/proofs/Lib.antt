@@ -1,0 +1,4 @@
+pub mod Trees
+pub mod Reading
+pub mod Refusals
+pub mod Longest

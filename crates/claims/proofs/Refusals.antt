@@ -1,0 +1,108 @@
+-- What the claims of document 01 say: a refusal shows that no wiring agrees, so that a match and a refusal never stand together; and
+-- how long a refusal can be.
+use Prim.Native.Nat.{ℕ, suc, _≤_}
+use mathlib.Core.Path.{_≡_, refl, sym, ap, _∙_}
+use mathlib.Core.Bool.{true, false, _&&_, false≢true}
+use mathlib.Core.List.{List, [], _∷_, map}
+use mathlib.Core.Logic.{inl, inr}
+use native.Mathlib.Nat.{add-zero, le-of-eq, le-of-suc-le-suc}
+use native.Mathlib.Omega.{arith}
+use borrow.Author.Tests.{ltb-true, lt-ltb}
+use lib.Dec.{ltb}
+use lib.ListN.{length, length-append}
+use Rattle.bits.proofs.Tests.{both, both-left, both-right}
+use Rattle.rules.specs.Rules.{completions, follows}
+use Rattle.rules.proofs.Lists.{In, flat-in, map-in, some-if}
+use Rattle.rules.proofs.Cut.{Reached}
+use Rattle.records.specs.Records.{inputs}
+use Rattle.wirings.specs.Wirings.{straight, wirings, agrees, agreeing}
+use Rattle.wirings.specs.Pairs.{Pair, cubes-in, side, pairs, of-pair, dead}
+use Rattle.wirings.proofs.Choices.{free-number}
+use Rattle.wirings.proofs.Wirings.{wiring-in}
+use Rattle.wirings.proofs.Agreement.{Accepted, few-inputs}
+use Rattle.wirings.proofs.Death.{in-pair, pair-in, some-dead, never-agrees}
+use Rattle.claims.specs.Trees.{Tree, tree-bytes, longest-tree}
+use Rattle.claims.specs.Claims.{IsMatch, IsRefusal, names-pair, closes, right-for, longest-refusal}
+use Rattle.claims.proofs.Trees.{TwoEach, Kills, right-none, tree-length, longest-grows}
+
+-- with k inputs still to be placed there are two choices for each
+pub two-each : (n : ℕ) → n ≤ 16 → TwoEach (straight n) n
+two-each n small k w r = le-of-eq (free-number n small w (r .allowed) (suc k) (r .total))
+
+-- before any choice, all inputs are still to be placed
+pub reached-start : (n : ℕ) → Reached (straight n) n n []
+unfolding follows
+reached-start n = record { total = add-zero n; allowed = refl }
+
+-- ---- closings
+
+module _ (q : ℕ) (f g : List ℕ) where
+  -- a closing names a pair to be kept apart, and every such pair can be named
+  pub names-in : (p : Pair) → names-pair q f g p ≡ true → In p (pairs q f g)
+  unfolding names-pair
+  names-in p e =
+      let first = both-left (ltb (p .0) 2 && ltb (p .1) (cubes-in (side (p .0) f))) _ e in
+      in-pair q f g (p .0) (p .1) (p .2) (
+        le-of-suc-le-suc (ltb-true (p .0) 2 (both-left (ltb (p .0) 2) _ first)),
+        ltb-true (p .1) _ (both-right (ltb (p .0) 2) _ first),
+        ltb-true (p .2) _ (both-right (ltb (p .0) 2 && ltb (p .1) (cubes-in (side (p .0) f))) _ e),
+      )
+
+  pub in-names : (p : Pair) → In p (pairs q f g) → names-pair q f g p ≡ true
+  unfolding names-pair
+  in-names p i =
+      let h = pair-in q f g (p .0) (p .1) (p .2) i in
+      both (both (lt-ltb (p .0) 2 (omega (arith, h .0))) (lt-ltb (p .1) _ (h .1))) (lt-ltb (p .2) _ (h .2))
+
+  -- from a closing nothing agrees: its pair is dead
+  pub closes-dies : Accepted f g → Kills (straight (inputs g)) (inputs g) (agrees q f g) (closes q f g)
+  unfolding some-dead
+  closes-dies ok k w p r e =
+      let gone = of-pair q f g (dead (inputs g) w) in
+      never-agrees q f g ok k w r
+      (some-if gone p (pairs q f g) (names-in p (both-left (names-pair q f g p) (gone p) e)) (both-right (names-pair q f g p) (gone p) e))
+
+-- ---- refusals
+
+module _ (f g : List ℕ) (ok : Accepted f g) where
+  -- where a tree for q is right, no wiring of that phase agrees
+  tree-none : (q : ℕ) (t : Tree) → right-for q f g t ≡ true → (w : List ℕ) → In w (completions (straight (inputs g)) (inputs g) []) → agrees q f g w ≡ false
+  tree-none q t = let n = inputs g in right-none (straight n) n (agrees q f g) (closes q f g) (closes-dies q f g ok) n [] t (reached-start n)
+
+  -- a refusal shows that no wiring agrees
+  pub refusal-none : (c : List ℕ) → IsRefusal f g c → (v : List ℕ) → In v (wirings (inputs g)) → agreeing f g v ≡ false
+  unfolding wirings In
+  refusal-none c h v i =
+      let whole = completions (straight (inputs g)) (inputs g) [] in
+      let x = flat-in (λ q. map (λ (w : List ℕ). q ∷ w) whole) v (0 ∷ 1 ∷ []) i in
+      let y = map-in (λ (w : List ℕ). x .0 ∷ w) v whole (x .2) in
+      ap (agreeing f g) (y .2) ∙ phase (x .0) (x .1) (y .0) (y .1)
+    where
+      phase : (q : ℕ) → In q (0 ∷ 1 ∷ []) → (w : List ℕ) → In w (completions (straight (inputs g)) (inputs g) []) → agrees q f g w ≡ false
+      phase q (inl e) w j = ap (λ (q : ℕ). agrees q f g w) e ∙ tree-none 0 (h .tree₀) (h .right₀) w j
+      phase q (inr (inl e)) w j = ap (λ (q : ℕ). agrees q f g w) e ∙ tree-none 1 (h .tree₁) (h .right₁) w j
+
+  -- the wiring of a match is one of them
+  pub match-listed : (c : List ℕ) (m : IsMatch f g c) → In (m .wiring) (wirings (inputs g))
+  match-listed c m = wiring-in (inputs g) (m .wiring) (m .whole)
+
+  -- so there is never a match and a refusal
+  pub not-both : (c c′ : List ℕ) → IsMatch f g c → IsRefusal f g c′ → ⊥
+  not-both c c′ m h = false≢true (sym (refusal-none c′ h (m .wiring) (match-listed c m)) ∙ m .agrees)
+
+  -- both its trees are no longer than the longest
+  pub refusal-length : (c : List ℕ) → IsRefusal f g c → length c ≤ longest-refusal (inputs g)
+  refusal-length c h =
+      let n = inputs g in
+      let short : (q : ℕ) (t : Tree) → right-for q f g t ≡ true → length (tree-bytes t) ≤ longest-tree n = λ q t. tree-length (straight n) n (two-each n (omega (arith, few-inputs f g ok))) (closes q f g) n [] t (reached-start n) in
+      omega (arith, ap length (h .bytes), length-append (tree-bytes (h .tree₀)) (tree-bytes (h .tree₁)), short 0 (h .tree₀) (h .right₀), short 1 (h .tree₁) (h .right₁))
+
+  -- and there are at most 8 inputs
+  pub refusal-most : (c : List ℕ) → IsRefusal f g c → length c ≤ 75323621
+  unfolding longest-tree
+  refusal-most c h = omega (arith, refusal-length c h, longest-grows (inputs g) 8 (few-inputs f g ok))
+
+-- for 1 to 8 inputs
+pub the-lengths : map longest-refusal (1 ∷ 2 ∷ 3 ∷ 4 ∷ 5 ∷ 6 ∷ 7 ∷ 8 ∷ []) ≡ 17 ∷ 61 ∷ 353 ∷ 2805 ∷ 28025 ∷ 336269 ∷ 4707729 ∷ 75323621 ∷ []
+unfolding longest-tree
+the-lengths = refl

@@ -1,0 +1,1 @@
+// Claims: definitions and laws, no code.
