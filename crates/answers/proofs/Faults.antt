@@ -1,16 +1,16 @@
 -- Faults in order: which of two comes first, and what a sound test says of the bytes.
-use Prim.Native.Nat.{ℕ, suc, _≤_, _<_}
+use Prim.Native.Nat.{ℕ, suc, _≤_, _<_, zero-le}
 use mathlib.Core.Path.{_≡_, refl, sym, ap, _∙_}
 use mathlib.Core.Bool.{Bool, true, false, cond, _&&_}
 use mathlib.Core.List.{List}
-use borrow.Author.Tests.{eq-eqb, ne-eqb, eqb-true, eqb-false, leb-true, leb-false, le-leb, lt-leb, le-ltb, ltb-false}
+use borrow.Author.Tests.{eq-eqb, ne-eqb, eqb-true, eqb-false, leb-true, leb-false, le-leb, lt-leb, le-ltb, ltb-true, ltb-false}
 use native.Mathlib.Nat.{le-antisymm, le-refl}
 use native.Mathlib.Omega.{arith}
 use lib.Dec.{leb, ltb, eqb}
 use lib.ListN.{length, getD}
 use Rattle.answers.specs.declared.Fault.{Fault}
 use Rattle.answers.specs.declared.Answer.{Answer}
-use Rattle.answers.specs.Answers.{fault, sound, is-sound, refused, _then_, _or-else_, by, byte-fault, length-fault}
+use Rattle.answers.specs.Answers.{fault, sound, is-sound, refused, _then_, _or-else_, by, present, byte-fault, length-fault}
 
 -- a fault that was found is what the definition says: both are sound, or neither is
 pub sound-as : {f g : Fault} → f ≡ g → f .code ≡ 0 → g .code ≡ 0
@@ -18,6 +18,12 @@ sound-as e z = ap (λ (f : Fault). f .code) (sym e) ∙ z
 
 pub bad-as : {f g : Fault} → f ≡ g → (f .code ≡ 0 → ⊥) → g .code ≡ 0 → ⊥
 bad-as e bad z = bad (ap (λ (f : Fault). f .code) e ∙ z)
+
+-- ---- a choice by a test: what holds of both things holds of the one that is chosen
+
+pub cond-cases : {A : Type 0} (Q : A → Type 0) (t : Bool) (a b : A) → Q a → Q b → Q (cond t a b)
+cond-cases Q true a b p q = p
+cond-cases Q false a b p q = q
 
 -- ---- a choice by a code: the next thing where it is 0, and else the thing that has the code
 
@@ -28,13 +34,17 @@ module _ {A : Type 0} where
   pub this-chosen : (k : ℕ) (next this : A) → (k ≡ 0 → ⊥) → cond (eqb k 0) next this ≡ this
   this-chosen k next this e = ap (λ (t : Bool). cond t next this) (ne-eqb _ _ e)
 
-  -- it has code 0 only where the next thing was chosen, and has code 0
-  pub chosen : (code : A → ℕ) (k : ℕ) (next this : A) → code this ≡ k → code (cond (eqb k 0) next this) ≡ 0 → (k ≡ 0) × (code next ≡ 0)
-  chosen code k next this e h = go (eqb k 0) refl h
+  -- what holds of each where it is chosen holds of the one that is
+  pub chosen-elim : (R : A → Type 0) (k : ℕ) (next this : A) → ((k ≡ 0 → ⊥) → R this) → (k ≡ 0 → R next) → R (cond (eqb k 0) next this)
+  chosen-elim R k next this stop on = go (eqb k 0) refl
     where
-      go : (t : Bool) → eqb k 0 ≡ t → code (cond t next this) ≡ 0 → (k ≡ 0) × (code next ≡ 0)
-      go true q h = (eqb-true _ _ q, h)
-      go false q h = absurd (eqb-false _ _ q (sym e ∙ h))
+      go : (t : Bool) → eqb k 0 ≡ t → R (cond t next this)
+      go true q = on (eqb-true _ _ q)
+      go false q = stop (eqb-false _ _ q)
+
+  -- so it has code 0 only where the next thing was chosen, and has code 0
+  pub chosen : (code : A → ℕ) (k : ℕ) (next this : A) → code this ≡ k → code (cond (eqb k 0) next this) ≡ 0 → (k ≡ 0) × (code next ≡ 0)
+  chosen code k next this e = chosen-elim (λ a. code a ≡ 0 → (k ≡ 0) × (code next ≡ 0)) k next this (λ bad h. absurd (bad (sym e ∙ h))) (λ z h. (z, h))
 
 -- where the first is sound, the next decides; where it is not, it does
 pub then-next : (f g : Fault) → f .code ≡ 0 → f then g ≡ g
@@ -83,11 +93,7 @@ or-else-stop a b = this-chosen (a .code) b a
 -- the first of two faults, by cases
 pub then-elim : (R : Fault → Type 0) (f g : Fault) → ((f .code ≡ 0 → ⊥) → R f) → (f .code ≡ 0 → R g) → R (f then g)
 unfolding _then_
-then-elim R f g stop next = go (eqb (f .code) 0) refl
-  where
-    go : (t : Bool) → eqb (f .code) 0 ≡ t → R (cond t g f)
-    go true q = next (eqb-true _ _ q)
-    go false q = stop (eqb-false _ _ q)
+then-elim R f g = chosen-elim R (f .code) g f
 
 -- two in a row are sound only if both are
 pub then-both : (f g : Fault) → (f then g) .code ≡ 0 → (f .code ≡ 0) × (g .code ≡ 0)
@@ -142,25 +148,35 @@ pub length-good : (len : ℕ) → length-fault len len ≡ sound
 unfolding length-fault
 length-good len = simp (le-ltb len len (le-refl len))
 
--- ---- which codes there can be: what holds of each code that a test gives holds of the fault's
+-- ---- which faults there can be: what holds of each fault that a test gives holds of the one that is found
 
-module _ (Q : ℕ → Type 0) where
-  pub then-codes : (f g : Fault) → Q (f .code) → Q (g .code) → Q ((f then g) .code)
-  unfolding _then_
-  then-codes f g p q = elim (eqb (f .code) 0) as (λ t. Q (cond t g f .code)) [ true ↦ q | false ↦ p ]
+module _ (Q : Fault → Type 0) where
+  pub then-cases : (f g : Fault) → Q f → Q g → Q (f then g)
+  then-cases f g p q = then-elim Q f g (λ _. p) (λ _. q)
 
-  pub byte-codes : (s : List ℕ) (k low high code : ℕ) → Q 0 → Q 1 → Q code → Q (byte-fault s k low high code .code)
+  pub present-cases : (s : List ℕ) (k : ℕ) (tested : Fault) → (length s ≤ k → Q (fault 1 (length s))) → Q tested → Q (present s k tested)
+  present-cases s k tested short there = go (leb (length s) k) refl
+    where
+      go : (t : Bool) → leb (length s) k ≡ t → Q (cond t (fault 1 (length s)) tested)
+      go true p = short (leb-true _ _ p)
+      go false p = there
+
+  pub byte-cases : (s : List ℕ) (k low high code : ℕ) → Q sound → (length s ≤ k → Q (fault 1 (length s))) → Q (fault code k) → Q (byte-fault s k low high code)
   unfolding byte-fault
-  byte-codes s k low high code q₀ q₁ q =
-      elim (leb (length s) k) as (λ t. Q (cond t (fault 1 (length s)) (cond (leb low (getD s k 0) && leb (getD s k 0) high) sound (fault code k)) .code)) [
-        | true ↦ q₁
-        | false ↦ elim (leb low (getD s k 0) && leb (getD s k 0) high) as (λ t. Q (cond t sound (fault code k) .code)) [ true ↦ q₀ | false ↦ q ]
-      ]
+  byte-cases s k low high code fine short outside = present-cases s k _ short (cond-cases Q (leb low (getD s k 0) && leb (getD s k 0) high) sound (fault code k) fine outside)
 
-  pub length-codes : (len end : ℕ) → Q 0 → Q 1 → Q 8 → Q (length-fault len end .code)
+  pub length-cases : (len end : ℕ) → Q sound → (len < end → Q (fault 1 len)) → Q (fault 8 end) → Q (length-fault len end)
   unfolding length-fault
-  length-codes len end q₀ q₁ q₈ =
-      elim (ltb len end) as (λ t. Q (cond t (fault 1 len) (cond (ltb end len) (fault 8 end) sound) .code)) [
-        | true ↦ q₁
-        | false ↦ elim (ltb end len) as (λ t. Q (cond t (fault 8 end) sound .code)) [ true ↦ q₈ | false ↦ q₀ ]
-      ]
+  length-cases len end fine short long = go (ltb len end) refl
+    where
+      go : (t : Bool) → ltb len end ≡ t → Q (cond t (fault 1 len) (cond (ltb end len) (fault 8 end) sound))
+      go true p = short (ltb-true _ _ p)
+      go false p = cond-cases Q (ltb end len) (fault 8 end) sound long fine
+
+-- ---- places: no fault lies after the byte that is tested, or after the end that is asked for
+
+pub byte-place : (s : List ℕ) (k low high code : ℕ) → byte-fault s k low high code .place ≤ k
+byte-place s k low high code = byte-cases (λ f. f .place ≤ k) s k low high code zero-le (λ h. h) (le-refl k)
+
+pub length-place : (len end : ℕ) → length-fault len end .place ≤ end
+length-place len end = length-cases (λ f. f .place ≤ end) len end zero-le (λ h. omega arith) (le-refl end)

@@ -1,8 +1,9 @@
-// Runs the cases of document 01 on records and summaries, and the examples of the 1995 paper, through the public calls, and
-// prints a line for each.
+// Runs the cases of document 01 on records, summaries and claims, and the examples of the 1995 paper, through the public calls,
+// and prints a line for each.
 ghost use Prim.Native.Nat.{_≤_};
 ghost use lib.ListN.{length};
 
+mod checks;
 mod functions;
 mod kinds;
 mod show;
@@ -132,6 +133,17 @@ fn examples() {
     wirings::one(b"Example 3.2", &F_3_2, &G_3_2, b"\x00\x01\x02");
 }
 
+// Both functions before the claim, and g's own faults even where n differs.
+fn functions_first() {
+    checks::check(
+        b"Conj without its last byte to Disj",
+        &CONJ[..10],
+        &DISJ,
+        b"",
+    );
+    checks::check(b"Wire to the clash above", &WIRE, &CLASH, b"");
+}
+
 fn main() {
     summaries();
     two_inputs();
@@ -144,4 +156,9 @@ fn main() {
     refusals();
     at_fault();
     examples();
+    checks::starred();
+    checks::headers();
+    checks::matches();
+    checks::trees();
+    functions_first();
 }

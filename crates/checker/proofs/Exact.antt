@@ -2,14 +2,14 @@
 -- are what the part asks for, so a claim without fault is a match or a refusal, byte by byte, and each of these is read without fault.
 use Prim.Native.Nat.{ℕ, suc, _+_, _≤_, _<_}
 use mathlib.Core.Path.{_≡_, refl, sym, ap, _∙_, subst}
-use mathlib.Core.Bool.{Bool, true, false, cond, _&&_, false≢true}
+use mathlib.Core.Bool.{Bool, true, false, cond, false≢true}
 use mathlib.Core.List.{List, [], _∷_, _++_, append-nil}
 use mathlib.Core.Logic.{_⊎_, inl, inr, ⊎-elim}
 use native.Mathlib.Nat.{le-refl, le-antisymm, sub-zero}
 use native.Mathlib.Numerals.{towards-suc}
 use native.Mathlib.Omega.{arith}
-use borrow.Author.Tests.{lt-leb, lt-ltb, ltb-true, eqb-true, eq-eqb}
-use lib.Dec.{leb, ltb, eqb}
+use borrow.Author.Tests.{lt-leb, eqb-true}
+use lib.Dec.{leb, eqb}
 use lib.ListN.{length, getD, drop, length-drop}
 use lib.Seq.{drop-cons, drop-length}
 use Rattle.bits.proofs.Tests.{both, both-left, both-right}
@@ -21,7 +21,7 @@ use Rattle.records.specs.Records.{inputs, both-read}
 use Rattle.records.proofs.Cubes.{Bytes}
 use Rattle.wirings.specs.Wirings.{straight, is-wiring, agreeing}
 use Rattle.wirings.specs.Pairs.{Pair}
-use Rattle.wirings.proofs.Wirings.{wiring-is}
+use Rattle.wirings.proofs.Wirings.{wiring-parts, parts-wiring}
 use Rattle.wirings.proofs.Agreement.{Accepted, both-good, both-sound}
 use Rattle.wirings.proofs.Death.{in-pair, pair-in}
 use Rattle.claims.specs.Trees.{tree-bytes}
@@ -122,9 +122,7 @@ module _ (f g : List ℕ) where
       let long = length-sound (length c) (4 + n) (frame .1) in
       record {
         wiring = getD c 3 0 ∷ drop 4 c;
-        whole =
-            wiring-is n (getD c 3 0) (drop 4 c)
-            ∙ both (both (lt-ltb (getD c 3 0) 2 (omega (arith, q .most))) (eq-eqb (length (drop 4 c)) n (omega (arith, length-drop 4 c)))) (choices-sound n [] (drop 4 c) 4 (choices .1));
+        whole = parts-wiring n (getD c 3 0) (drop 4 c) (omega (arith, q .most)) (omega (arith, length-drop 4 c)) (choices-sound n [] (drop 4 c) 4 (choices .1));
         agrees = test-sound _ 13 0 (agree .1);
         bytes = claim-is c 0x4D 0x54 n mark (frame .0) ∙ ap (match-claim n) (drop-cons c 3 0 (q .there));
       }
@@ -137,16 +135,14 @@ module _ (f g : List ℕ) where
       go [] whole agree = absurd (false≢true whole)
       go (q ∷ w) whole agree =
           let claim = match-claim n (q ∷ w) in
-          let parts = sym (wiring-is n q w) ∙ whole in
-          let sized = both-left (ltb q 2 && eqb (length w) n) _ parts in
-          let phase = ltb-true q 2 (both-left (ltb q 2) _ sized) in
-          let long : 4 + n ≡ length claim = omega (arith, eqb-true (length w) n (both-right (ltb q 2) _ sized)) in
+          let parts = wiring-parts n q w whole in
+          let long : 4 + n ≡ length claim = omega (arith, parts .1) in
           simp (lt-leb (length claim) 0 (omega arith))
           (λ i.
           header-good 0x4D 0x54 n (q ∷ w) i
           then (ap (length-fault (length claim)) long ∙ length-good (length claim)) i
-          then byte-good claim 3 0 1 11 (record { there = omega arith; least = omega arith; most = omega arith }) i
-          then choices-good n [] w 4 (both-right (ltb q 2 && eqb (length w) n) _ parts) i
+          then byte-good claim 3 0 1 11 (record { there = omega arith; least = omega arith; most = omega (arith, parts .0) }) i
+          then choices-good n [] w 4 (parts .2) i
           then cond (agree i) sound (fault 14 0))
 
   -- ---- a refusal claim

@@ -2,4 +2,5 @@ pub mod Making
 pub mod Closings
 pub mod Children
 pub mod Exact
+pub mod Places
 pub mod Settled

@@ -123,36 +123,36 @@ fn pair_dead(w: Wiring, ours: &[u8], theirs: &[u8], u: u8, v: u8) -> bool
     w.dead(ours[i], ours[i + 1], theirs[j], theirs[j + 1])
 }
 
-// A closing: s, then u, then v, then whether the pair is dead.
-fn closing(w: Wiring, q: u8, f: &[u8], g: &[u8], claim: &[u8], at: usize) -> Fault
+// The closing at a node: s, then u, then v, each of which has to be without fault, then whether the pair is dead.
+fn closing(w: Wiring, q: u8, f: &[u8], g: &[u8], claim: &[u8], node: usize) -> Fault
     requires { ⌜ Formed w ⌝ }
     requires { ⌜ record-end (now f) ≡ length (now f) ⌝ }
     requires { ⌜ record-end (now g) ≡ length (now g) ⌝ }
-    ensures { λ r. ⌜ r ≡ closing-fault (w .n) q (now (f .entry)) (now (g .entry)) (now (claim .entry)) (prefix w) at ⌝ }
+    ensures { λ r. ⌜ r ≡ closing-fault (w .n) q (now (f .entry)) (now (g .entry)) (now (claim .entry)) (prefix w) node ⌝ }
 {
-    let node = answers::byte_fault(claim, at, 0, 1, 15);
-    if node.code != 0 {
-        return node;
+    let s = answers::byte_fault(claim, node, 0, 1, 15);
+    if s.code != 0 {
+        return s;
     }
-    let ours = partial::side(f, claim[at]);
-    let theirs = partial::side(g, partial::against(q, claim[at]));
-    let first = index_fault(claim, at + 1, ours.len() / 2);
-    if first.code != 0 {
-        return first;
+    let ours = partial::side(f, claim[node]);
+    let theirs = partial::side(g, partial::against(q, claim[node]));
+    let u = index_fault(claim, node + 1, ours.len() / 2);
+    if u.code != 0 {
+        return u;
     }
-    let second = index_fault(claim, at + 2, theirs.len() / 2);
-    if second.code != 0 {
-        return second;
+    let v = index_fault(claim, node + 2, theirs.len() / 2);
+    if v.code != 0 {
+        return v;
     }
-    if !pair_dead(w, ours, theirs, claim[at + 1], claim[at + 2]) {
+    if !pair_dead(w, ours, theirs, claim[node + 1], claim[node + 2]) {
         return Fault {
             code: 17,
-            place: at,
+            place: node,
         };
     }
     Fault {
         code: 0,
-        place: at + 3,
+        place: node + 3,
     }
 }
 

@@ -14,7 +14,7 @@ use lib.ListN.{length, getD, drop, length-append, length-drop}
 use lib.Seq.{drop-cons, drop-drop, drop-append-seam, getD-drop}
 use Rattle.answers.specs.declared.Fault.{Fault}
 use Rattle.answers.specs.Answers.{fault}
-use Rattle.answers.proofs.Faults.{next-chosen, this-chosen, chosen}
+use Rattle.answers.proofs.Faults.{next-chosen, this-chosen, chosen, cond-cases}
 use Rattle.bits.proofs.Tests.{both, both-left, both-right}
 use Rattle.rules.specs.Rules.{Rule, _adding_, next}
 use Rattle.rules.proofs.Lists.{In}
@@ -195,19 +195,22 @@ module _ (R : Rule) (closes : List ℕ → Pair → Bool) (read-closing : List �
 
 -- ---- places
 
+-- a reading that ends by m, and then one that ends no more than k further on
+pub onward-place : (f : Fault) (next : ℕ → Fault) (m k : ℕ) → f .place ≤ m → next (f .place) .place ≤ f .place + k → (f onward next) .place ≤ m + k
+unfolding _onward_
+onward-place f next m k this later = cond-cases (λ (r : Fault). r .place ≤ m + k) (eqb (f .code) 0) (next (f .place)) f (omega arith) (omega arith)
+
 -- readings of which none ends more than m further on, one after the other
 turn-place : (read : ℕ → ℕ → Fault) (m : ℕ) (l : List ℕ) → ((b : ℕ) → In b l → (at : ℕ) → read b at .place ≤ at + m)
     → (at : ℕ) → in-turn read l at .place ≤ at + length l * m
-unfolding _onward_ in-turn In
+unfolding in-turn In
 turn-place read m [] h at = omega arith
 turn-place read m (b ∷ l) h at =
-    let this = h b (inl refl) at in
-    let rest = turn-place read m l (λ a i. h a (inr i)) (read b at .place) in
-    let more = suc-mul (length l) m in
-    elim (eqb (read b at .code) 0) as (λ t. cond t (in-turn read l (read b at .place)) (read b at) .place ≤ at + suc (length l) * m) [
-      | true ↦ omega arith
-      | false ↦ omega arith
-    ]
+    omega (
+      arith,
+      onward-place (read b at) (in-turn read l) (at + m) (length l * m) (h b (inl refl) at) (turn-place read m l (λ a i. h a (inr i)) (read b at .place)),
+      suc-mul (length l) m,
+    )
 
 -- whether a fault was found or not, reading a tree ends no further on than the longest tree does
 pub tree-place : (R : Rule) (read-closing : List ℕ → ℕ → Fault) (c : List ℕ) (n : ℕ) → TwoEach R n → ((w : List ℕ) (at : ℕ) → read-closing w at .place ≤ at + 3)

@@ -1,11 +1,11 @@
 -- What the claims of document 01 say: a refusal shows that no wiring agrees, so that a match and a refusal never stand together; and
--- how long a refusal can be.
-use Prim.Native.Nat.{ℕ, suc, _≤_}
+-- how long a claim can be.
+use Prim.Native.Nat.{ℕ, suc, _+_, _≤_}
 use mathlib.Core.Path.{_≡_, refl, sym, ap, _∙_}
 use mathlib.Core.Bool.{true, false, _&&_, false≢true}
 use mathlib.Core.List.{List, [], _∷_, map}
 use mathlib.Core.Logic.{inl, inr}
-use native.Mathlib.Nat.{add-zero, le-of-eq, le-of-suc-le-suc}
+use native.Mathlib.Nat.{add-zero, le-of-eq, le-of-suc-le-suc, le-trans}
 use native.Mathlib.Omega.{arith}
 use borrow.Author.Tests.{ltb-true, lt-ltb}
 use lib.Dec.{ltb}
@@ -15,14 +15,14 @@ use Rattle.rules.specs.Rules.{completions, follows}
 use Rattle.rules.proofs.Lists.{In, flat-in, map-in, some-if}
 use Rattle.rules.proofs.Cut.{Reached}
 use Rattle.records.specs.Records.{inputs}
-use Rattle.wirings.specs.Wirings.{straight, wirings, agrees, agreeing}
+use Rattle.wirings.specs.Wirings.{straight, is-wiring, wirings, agrees, agreeing}
 use Rattle.wirings.specs.Pairs.{Pair, cubes-in, side, pairs, of-pair, dead}
 use Rattle.wirings.proofs.Choices.{free-number}
-use Rattle.wirings.proofs.Wirings.{wiring-in}
+use Rattle.wirings.proofs.Wirings.{wiring-in, wiring-parts}
 use Rattle.wirings.proofs.Agreement.{Accepted, few-inputs}
 use Rattle.wirings.proofs.Death.{in-pair, pair-in, some-dead, never-agrees}
 use Rattle.claims.specs.Trees.{Tree, tree-bytes, longest-tree}
-use Rattle.claims.specs.Claims.{IsMatch, IsRefusal, names-pair, closes, right-for, longest-refusal}
+use Rattle.claims.specs.Claims.{IsMatch, IsRefusal, match-claim, names-pair, closes, right-for, longest-refusal}
 use Rattle.claims.proofs.Trees.{TwoEach, Kills, right-none, tree-length, longest-grows}
 
 -- with k inputs still to be placed there are two choices for each
@@ -90,17 +90,30 @@ module _ (f g : List ℕ) (ok : Accepted f g) where
   pub not-both : (c c′ : List ℕ) → IsMatch f g c → IsRefusal f g c′ → ⊥
   not-both c c′ m h = false≢true (sym (refusal-none c′ h (m .wiring) (match-listed c m)) ∙ m .agrees)
 
-  -- both its trees are no longer than the longest
-  pub refusal-length : (c : List ℕ) → IsRefusal f g c → length c ≤ longest-refusal (inputs g)
-  refusal-length c h =
-      let n = inputs g in
-      let short : (q : ℕ) (t : Tree) → right-for q f g t ≡ true → length (tree-bytes t) ≤ longest-tree n = λ q t. tree-length (straight n) n (two-each n (omega (arith, few-inputs f g ok))) (closes q f g) n [] t (reached-start n) in
-      omega (arith, ap length (h .bytes), length-append (tree-bytes (h .tree₀)) (tree-bytes (h .tree₁)), short 0 (h .tree₀) (h .right₀), short 1 (h .tree₁) (h .right₁))
+-- ---- how long a claim is
 
-  -- and there are at most 8 inputs
-  pub refusal-most : (c : List ℕ) → IsRefusal f g c → length c ≤ 75323621
-  unfolding longest-tree
-  refusal-most c h = omega (arith, refusal-length c h, longest-grows (inputs g) 8 (few-inputs f g ok))
+pub match-length : (f g c : List ℕ) → IsMatch f g c → length c ≡ 4 + inputs g
+unfolding is-wiring
+match-length f g c m = ap length (m .bytes) ∙ go (m .wiring) (m .whole)
+  where
+    go : (v : List ℕ) → is-wiring (inputs g) v ≡ true → length (match-claim (inputs g) v) ≡ 4 + inputs g
+    go [] e = absurd (false≢true e)
+    go (q ∷ w) e = omega (arith, wiring-parts (inputs g) q w e .1)
+
+-- both trees of a refusal are no longer than the longest
+pub refusal-length : (f g c : List ℕ) → inputs g ≤ 8 → IsRefusal f g c → length c ≤ longest-refusal (inputs g)
+refusal-length f g c few h =
+    let n = inputs g in
+    let short : (q : ℕ) (t : Tree) → right-for q f g t ≡ true → length (tree-bytes t) ≤ longest-tree n = λ q t. tree-length (straight n) n (two-each n (omega arith)) (closes q f g) n [] t (reached-start n) in
+    omega (arith, ap length (h .bytes), length-append (tree-bytes (h .tree₀)) (tree-bytes (h .tree₁)), short 0 (h .tree₀) (h .right₀), short 1 (h .tree₁) (h .right₁))
+
+-- and there are at most 8 inputs
+pub longest-most : (n : ℕ) → n ≤ 8 → longest-refusal n ≤ 75323621
+unfolding longest-tree
+longest-most n few = omega (arith, longest-grows n 8 few)
+
+pub refusal-most : (f g : List ℕ) → Accepted f g → (c : List ℕ) → IsRefusal f g c → length c ≤ 75323621
+refusal-most f g ok c h = let few = few-inputs f g ok in le-trans (refusal-length f g c few h) (longest-most (inputs g) few)
 
 -- for 1 to 8 inputs
 pub the-lengths : map longest-refusal (1 ∷ 2 ∷ 3 ∷ 4 ∷ 5 ∷ 6 ∷ 7 ∷ 8 ∷ []) ≡ 17 ∷ 61 ∷ 353 ∷ 2805 ∷ 28025 ∷ 336269 ∷ 4707729 ∷ 75323621 ∷ []

@@ -2,3 +2,4 @@ pub mod Table
 pub mod Records
 pub mod Refused
 pub mod Wirings
+pub mod Claims

@@ -1,18 +1,26 @@
 -- Wrong versions that the contracts rule out, each at a case: whatever outcome the contract allows there is the right one.
-use Prim.Native.Nat.{_+_}
-use mathlib.Core.Path.{_≡_, refl, ap}
-use mathlib.Core.List.{[], _∷_}
+use Prim.Native.Nat.{ℕ, _+_}
+use mathlib.Core.Path.{_≡_, refl, ap, _∙_}
+use mathlib.Core.List.{List, [], _∷_, _++_}
 use contract.Lifetimes.{Lfts}
 use borrow.Fn.Kinds.{Dens, resT, endedOf}
 use denote.Ref.{at-last}
 use denote.Triple.Clauses.{AtExit}
 use lib.ListN.{replicate}
-use Rattle.bits.specs.Bits.{bit, every, any, count}
+use Rattle.bits.specs.Bits.{bit, number, every, any, count}
 use Rattle.cubes.specs.Cubes.{cube-holds, cubes-share, some-cube, patterns-held, inputs-used}
-use Rattle.answers.specs.Answers.{refused, _then_, _or-else_, by, byte-fault, length-fault, buffer-after}
-use Rattle.records.specs.Records.{on-list, off-list, off-count, cube-code, clash-code, first-fault, header-bytes, header-fault, record-fault, reading, summing, bytes-at-fault, memory-at-fault}
+use Rattle.answers.specs.declared.Answer.{Answer}
+use Rattle.answers.specs.Answers.{accepted, refused, _then_, _or-else_, by, byte-fault, length-fault, buffer-after}
+use Rattle.rules.specs.Lists.{filter, some-in}
+use Rattle.records.specs.Records.{on-list, off-list, off-count, cube-code, clash-code, first-fault, header-bytes, header-fault, record-fault, both-read, reading, summing, bytes-at-fault, memory-at-fault}
 use Rattle.writer.specs.Writing.{record-bytes, few, sizes, cubes, fits, writing}
-use Rattle.demands.proofs.Table.{Conj}
+use Rattle.wirings.specs.Wirings.{choices-from, served, read-at, disagree-at, agrees}
+use Rattle.wirings.specs.Pairs.{separates, dead, side, against}
+use Rattle.claims.specs.Reading.{_onward_, in-turn, read-tree}
+use Rattle.checker.specs.Checking.{header-fault as claim-header, choices-fault, match-fault, index-fault, closing-fault, tree-fault, refusal-fault, claim-fault, checking}
+use Rattle.demands.proofs.Table.{Conj, Disj, Odd, Const, Wire, Conj-Disj, Const-Wire, one-input, Row, check-of, AllRight}
+use Rattle.checker.proofs.check.Kinds as check-kinds
+use Rattle.checker.proofs.check.Reads as check
 use Rattle.records.proofs.read.Kinds as read-kinds
 use Rattle.records.proofs.read.Reads as read
 use Rattle.records.proofs.summary.Kinds as summary-kinds
@@ -40,6 +48,48 @@ pub buffer-written : (κs : Lfts 3) (a : Dens κs write-kinds.ps) (r : resT writ
     → s .1 .1 .1 .0 .now ≡ Conj
 unfolding bit every any count cube-holds cubes-share some-cube by _or-else_ buffer-after cube-code clash-code first-fault record-bytes few sizes cubes fits writing
 buffer-written κs a r s p = p .buffer
+
+-- ---- the checker: the answer at each of these cases is settled
+
+pub checker-answers : (κs : Lfts 3) (a : Dens κs check-kinds.ps) (f g c : List ℕ) (answer : Answer) → checking f g c ≡ answer
+    → (r : resT check-kinds.r κs .Denot) (s : AtExit (endedOf 3 check-kinds.ps check-kinds.r) κs)
+    → check.Post κs (at-last (a .0) f, (at-last (a .1 .0) g, (at-last (a .1 .1 .0) c, tt))) r s → r ≡ answer
+checker-answers κs a f g c answer e r s p = p ∙ e
+
+-- the conjunction's inputs, and on at every pattern
+abbrev Const-2 : List ℕ
+Const-2 = 0x46 ∷ 0x4E ∷ 0x02 ∷ 0x01 ∷ 0x00 ∷ 0x00 ∷ 0x00 ∷ []
+
+-- the functions of example 2.1 of the paper
+abbrev F-2-1 : List ℕ
+F-2-1 = 0x46 ∷ 0x4E ∷ 0x03 ∷ 0x02 ∷ 0x01 ∷ 0x00 ∷ 0x03 ∷ 0x04 ∷ 0x01 ∷ 0x05 ∷ 0x00 ∷ []
+
+abbrev G-2-1 : List ℕ
+G-2-1 = 0x46 ∷ 0x4E ∷ 0x03 ∷ 0x01 ∷ 0x01 ∷ 0x01 ∷ 0x04 ∷ 0x02 ∷ 0x01 ∷ []
+
+-- in this order: one that refuses all; one that reads the first tree and only skips the second; a closing without the dead test, or
+-- 17 at another byte than the node's first; g's index tested against the wrong list with q = 1; on tested against off with q = 1;
+-- a split at depth n; bytes after the end; 13 at the first use; j applied the wrong way round, which would change the last two
+-- answers for one another
+abbrev pub wrong-checkers : List Row
+wrong-checkers =
+    check-of Conj Disj Conj-Disj (accepted 1 6)
+    ∷ check-of Const Wire (0x52 ∷ 0x46 ∷ 0x01 ∷ 0x00 ∷ 0x00 ∷ 0x00 ∷ 0x00 ∷ 0x00 ∷ 0x01 ∷ []) (refused 15 3 8)
+    ∷ check-of Conj Odd (0x52 ∷ 0x46 ∷ 0x02 ∷ 0x00 ∷ 0x00 ∷ 0x00 ∷ []) (refused 17 3 3)
+    ∷ check-of Const-2 Conj (0x52 ∷ 0x46 ∷ 0x02 ∷ 0x00 ∷ 0x00 ∷ 0x01 ∷ 0x00 ∷ 0x00 ∷ 0x01 ∷ []) (refused 15 3 8)
+    ∷ check-of Wire Wire (one-input 0x01 0x00) (refused 14 3 0)
+    ∷ check-of Const Wire (0x52 ∷ 0x46 ∷ 0x01 ∷ 0xFF ∷ 0xFF ∷ []) (refused 16 3 4)
+    ∷ check-of Const Wire (Const-Wire ++ (0x00 ∷ [])) (refused 8 3 9)
+    ∷ check-of Conj Disj (0x4D ∷ 0x54 ∷ 0x02 ∷ 0x01 ∷ 0x10 ∷ 0x10 ∷ []) (refused 13 3 5)
+    ∷ check-of F-2-1 G-2-1 (0x4D ∷ 0x54 ∷ 0x03 ∷ 0x00 ∷ 0x01 ∷ 0x02 ∷ 0x10 ∷ []) (accepted 1 7)
+    ∷ check-of F-2-1 G-2-1 (0x4D ∷ 0x54 ∷ 0x03 ∷ 0x00 ∷ 0x12 ∷ 0x00 ∷ 0x01 ∷ []) (refused 14 3 0)
+    ∷ []
+
+pub wrong-checkers-ruled-out : AllRight wrong-checkers
+unfolding bit number every any count cube-holds cubes-share some-cube _then_ by _or-else_ byte-fault length-fault filter some-in on-list off-list cube-code clash-code first-fault header-bytes header-fault record-fault both-read choices-from served read-at disagree-at agrees separates dead side against _onward_ in-turn read-tree claim-header choices-fault match-fault index-fault closing-fault tree-fault refusal-fault claim-fault checking
+wrong-checkers-ruled-out = (refl, (refl, (refl, (refl, (refl, (refl, (refl, (refl, (refl, (refl, tt))))))))))
+
+-- ---- the bytes at fault
 
 -- a fault call that hands back bytes of f for a fault of g: Conj is sound, and g's first cube is at fault
 pub fault-of-g : (κs : Lfts 1) (a : Dens κs at-fault-kinds.ps) (r : resT at-fault-kinds.r κs .Denot) (s : AtExit (endedOf 1 at-fault-kinds.ps at-fault-kinds.r) κs)

@@ -2,7 +2,7 @@
 -- records with the same number of inputs, and a partial wiring of as many.
 use Prim.Native.Nat.{ℕ, _+_}
 use mathlib.Core.Path.{_≡_, sym, ap, _∙_, subst}
-use mathlib.Core.Bool.{true, false}
+use mathlib.Core.Bool.{true, false, not}
 use mathlib.Core.List.{List, []}
 use mathlib.Core.Option.{Option}
 use contract.Lifetimes.{Lfts}
@@ -12,15 +12,16 @@ use native.Mathlib.Omega.{arith}
 use lib.ListN.{length}
 use Rattle.rules.specs.Rules.{completions, follows}
 use Rattle.rules.proofs.Lists.{In, some-if}
-use Rattle.rules.proofs.Cut.{Reached, whole-passes}
+use Rattle.rules.proofs.Cut.{Reached}
 use Rattle.records.specs.Records.{inputs}
 use Rattle.wirings.specs.Wirings.{straight, agrees}
 use Rattle.wirings.specs.Pairs.{Pair, pairs, first-dead}
 use Rattle.wirings.proofs.Agreement.{Accepted}
-use Rattle.wirings.proofs.Death.{some-dead, first-dead-is, first-dead-none, never-agrees, death}
+use Rattle.wirings.proofs.Death.{some-dead, first-dead-is, never-agrees}
 use Rattle.partial.specs.declared.Found.{Found}
 use Rattle.partial.specs.Partial.{prefix, Formed, found}
-use Rattle.partial.proofs.Rows.{found-some, found-none}
+use Rattle.partial.proofs.Rows.{found-some}
+use Rattle.partial.proofs.Whole.{agrees-found}
 use Rattle.partial.proofs.Wiring.first_dead.Kinds as first-dead-kinds
 use Rattle.partial.proofs.Wiring.first_dead.Reads as search
 
@@ -63,6 +64,4 @@ module _ (κs : Lfts 2) (a : Dens κs first-dead-kinds.ps) (r : resT first-dead-
     -- where none is found under a whole wiring, it agrees
     pub none-agrees : r .found ≡ false → length w ≡ n → agrees q f g w ≡ true
     none-agrees e whole =
-        let none = found-none pair (ap (λ (o : Found). o .found) (sym is-found) ∙ e) in
-        whole-passes (straight n) n (agrees q f g) (some-dead n q f g) (death q f g ok) w
-        (reached 0 (omega (arith, whole))) (first-dead-none n q f g w none)
+        agrees-found q f g ok w (reached 0 (omega (arith, whole))) ∙ ap not (ap (λ (o : Found). o .found) (sym is-found) ∙ e)

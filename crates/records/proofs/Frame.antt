@@ -1,15 +1,19 @@
 -- What a sound header says of a record, and that a record of that form has a sound header.
 use Prim.Native.Nat.{ℕ}
 use mathlib.Core.Path.{_≡_, refl, sym, ap, _∙_}
+use mathlib.Core.Bool.{Bool, true, false, cond}
 use mathlib.Core.List.{List}
+use borrow.Author.Tests.{eqb-true}
+use native.Mathlib.Omega.{arith}
+use lib.Dec.{eqb}
 use lib.ListN.{length}
 use Rattle.answers.specs.declared.Fault.{Fault}
 use Rattle.cubes.specs.Cubes.{patterns-held, inputs-used}
-use Rattle.answers.specs.Answers.{accepted, sound, _then_, length-fault}
-use Rattle.answers.proofs.Faults.{Byte, byte-sound, byte-good, length-sound, length-good, then-both, then-next, then-stop, next-chosen, chosen}
+use Rattle.answers.specs.Answers.{accepted, fine, refused, sound, _then_, length-fault}
+use Rattle.answers.proofs.Faults.{Byte, byte-sound, byte-good, length-sound, length-good, then-both, then-next, then-stop, by-both, next-chosen, chosen}
 use Rattle.records.specs.declared.Reading.{Reading}
 use Rattle.records.specs.declared.Figures.{Figures}
-use Rattle.records.specs.Records.{inputs, on-count, off-count, record-end, on-list, off-list, with-counts, reading, with-figures, summing, header-bytes, header-fault, cubes-fault, clash-fault, record-fault}
+use Rattle.records.specs.Records.{inputs, on-count, off-count, record-end, on-list, off-list, with-counts, reading, with-figures, summing, header-bytes, header-fault, cubes-fault, clash-fault, record-fault, both-read}
 
 -- the header bytes are there, and each is in its range
 pub record Header (s : List ℕ) : Type 0 where
@@ -57,6 +61,18 @@ record-sound s e =
     let clash = then-both _ _ e in
     let parts = then-both _ _ (clash .0) in
     record { framed = header-sound s (parts .0); cubes = parts .1; apart = clash .1 }
+
+-- two sound records with as many inputs
+pub both-fine : (f g : List ℕ) → both-read f g .code ≡ 0 → (record-fault f .code ≡ 0) × (record-fault g .code ≡ 0) × (inputs f ≡ inputs g)
+unfolding both-read
+both-fine f g e =
+    let first = by-both 1 (record-fault f) _ e in
+    let second = by-both 2 (record-fault g) _ (first .1) in
+    (first .0, second .0, same (eqb (inputs f) (inputs g)) refl (second .1))
+  where
+    same : (t : Bool) → eqb (inputs f) (inputs g) ≡ t → cond t fine (refused 9 2 2) .code ≡ 0 → inputs f ≡ inputs g
+    same true q h = eqb-true _ _ q
+    same false q h = absurd (omega (arith, h))
 
 -- the three ways in which the reading ends
 pub ends-at-header : (s : List ℕ) → (header-fault s .code ≡ 0 → ⊥) → record-fault s ≡ header-fault s

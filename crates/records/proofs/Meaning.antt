@@ -14,11 +14,10 @@ use Rattle.cubes.specs.Cubes.{cube-names, cubes-share, some-cube, some-holds, o
 use Rattle.cubes.proofs.Lists.{Each, each-some}
 use Rattle.answers.specs.declared.Fault.{Fault}
 use Rattle.answers.specs.Answers.{fault}
-use Rattle.answers.proofs.Faults.{then-elim}
 use Rattle.records.specs.Records.{inputs, cubes-at, on-list, off-list, cube-code, clash-code, first-fault, header-fault, cubes-fault, clash-fault, record-fault}
 use Rattle.records.proofs.Frame.{record-sound, ends-at-clash}
 use Rattle.records.proofs.Cubes.{first-each, on-each, off-each, clash-means}
-use Rattle.records.proofs.Places.{header-codes, first-codes, cube-codes}
+use Rattle.records.proofs.Places.{record-cases, header-codes, first-codes, cube-codes}
 
 -- ---- code 7
 
@@ -63,13 +62,11 @@ both-on-off s x = some-holds (on-list s) x && some-holds (off-list s) x
 
 -- code 7 says that some pattern is both on and off
 pub seven-both : (s : List ℕ) → record-fault s .code ≡ 7 → Both s
-unfolding record-fault both-on-off
+unfolding both-on-off
 seven-both s =
-    then-elim (λ (f : Fault). f .code ≡ 7 → Both s) _ _
-    (λ _.
-    then-elim (λ (f : Fault). f .code ≡ 7 → Both s) _ _
-    (λ _ e. absurd (header-codes (λ (c : ℕ). c ≡ 7 → ⊥) (eqb-false 0 7 refl) s (eqb-false 1 7 refl) (eqb-false 2 7 refl) (eqb-false 3 7 refl) (eqb-false 4 7 refl) (eqb-false 8 7 refl) e))
-    (λ _ e. absurd (first-codes (λ (c : ℕ). c ≡ 7 → ⊥) (eqb-false 0 7 refl) _ _ _ (λ P N. cube-codes (λ (c : ℕ). c ≡ 7 → ⊥) (eqb-false 0 7 refl) _ P N (eqb-false 5 7 refl) (eqb-false 6 7 refl)) e)))
+    record-cases (λ (f : Fault). f .code ≡ 7 → Both s) s
+    (λ e. absurd (header-codes (λ (c : ℕ). c ≡ 7 → ⊥) (eqb-false 0 7 refl) s (eqb-false 1 7 refl) (eqb-false 2 7 refl) (eqb-false 3 7 refl) (eqb-false 4 7 refl) (eqb-false 8 7 refl) e))
+    (λ _ e. absurd (first-codes (λ (c : ℕ). c ≡ 7 → ⊥) (eqb-false 0 7 refl) _ _ _ (λ P N. cube-codes (λ (c : ℕ). c ≡ 7 → ⊥) (eqb-false 0 7 refl) _ P N (eqb-false 5 7 refl) (eqb-false 6 7 refl)) e))
     (λ _ e.
     let w = any-at (both-on-off s) (2 ^ inputs s) (found _ (sym (clash-code-is s) ∙ e)) in
     let on = some-holds (on-list s) (w .0) in

@@ -1,7 +1,7 @@
--- Which codes each part of the reading gives, and the place of a cube's fault: two bytes or more before the record's end.
-use Prim.Native.Nat.{ℕ, _+_, _*_, _≤_}
+-- Which codes each part of the reading gives, and which places: a cube's fault lies two bytes or more before the record's end.
+use Prim.Native.Nat.{ℕ, _+_, _*_, _≤_, zero-le}
 use mathlib.Core.Path.{_≡_, refl, sym, ap, _∙_}
-use mathlib.Core.Bool.{Bool, true, false, cond, _&&_, false≢true}
+use mathlib.Core.Bool.{Bool, true, false, _&&_, false≢true}
 use mathlib.Core.List.{List, [], _∷_}
 use native.Mathlib.Nat.{le-trans}
 use native.Mathlib.Omega.{arith}
@@ -10,59 +10,59 @@ use lib.ListN.{length, drop, length-take, length-drop}
 use Rattle.bits.specs.Bits.{has, any}
 use Rattle.cubes.specs.Cubes.{cube-names, cubes-share, some-cube}
 use Rattle.answers.specs.declared.Fault.{Fault}
-use Rattle.answers.specs.Answers.{fault}
-use Rattle.answers.proofs.Faults.{then-codes, byte-codes, length-codes, then-elim, then-both}
-use Rattle.records.specs.Records.{inputs, on-count, cubes-at, on-list, off-list, is-cubes, header-bytes, header-fault, cubes-fault, clash-fault, record-fault, first-fault, cube-code, clash-code}
-use Rattle.records.proofs.Frame.{Framed, header-sound}
+use Rattle.answers.specs.declared.Answer.{Answer}
+use Rattle.answers.specs.Answers.{fault, sound, fine, refused, by, byte-fault}
+use Rattle.answers.proofs.Faults.{cond-cases, then-cases, byte-cases, length-cases, chosen-elim, then-elim, then-both, byte-place, length-place}
+use Rattle.records.specs.Records.{inputs, on-count, cubes-at, on-list, off-list, is-cubes, header-bytes, header-fault, cubes-fault, clash-fault, record-end, record-fault, both-read, first-fault, cube-code, clash-code}
+use Rattle.records.proofs.Frame.{Framed, bytes-sound, header-sound}
+
+-- ---- by cases: what holds of each fault that a part of the reading gives holds of the one that is found
+
+module _ (Q : Fault → Type 0) where
+  bytes-cases : (s : List ℕ) → Q (byte-fault s 0 0x46 0x46 2) → Q (byte-fault s 1 0x4E 0x4E 2) → Q (byte-fault s 2 1 8 3) → Q (byte-fault s 3 0 64 4) → Q (byte-fault s 4 0 64 4) → Q (header-bytes s)
+  unfolding header-bytes
+  bytes-cases s b₀ b₁ b₂ b₃ b₄ = then-cases Q _ _ (then-cases Q _ _ (then-cases Q _ _ (then-cases Q _ _ b₀ b₁) b₂) b₃) b₄
+
+  -- the fault of a cube lies two bytes or more before the list's end
+  first-cases : Q sound → (code : ℕ → ℕ → ℕ) (l : List ℕ) (at : ℕ) → ((P N k : ℕ) → k + 2 ≤ at + length l → Q (fault (code P N) k)) → Q (first-fault code l at)
+  unfolding first-fault
+  first-cases fine code [] at found = fine
+  first-cases fine code (P ∷ []) at found = fine
+  first-cases fine code (P ∷ N ∷ l) at found =
+      cond-cases Q (eqb (code P N) 0) _ _ (first-cases fine code l (at + 2) (λ P N k h. found P N k (omega arith))) (found P N at (omega arith))
+
+  -- cubes are read where the header is sound
+  pub record-cases : (s : List ℕ) → Q (header-fault s) → (Framed s → Q (cubes-fault s)) → (Framed s → Q (clash-fault s)) → Q (record-fault s)
+  unfolding record-fault
+  record-cases s header cubes clash =
+      then-elim Q _ _ (λ _. then-elim Q _ _ (λ _. header) (λ z. cubes (header-sound s z))) (λ z. clash (header-sound s (then-both _ _ z .0)))
 
 -- ---- codes
 
 module _ (Q : ℕ → Type 0) (q₀ : Q 0) where
+  abbrev OfCode : Fault → Type 0
+  OfCode f = Q (f .code)
+
   pub header-codes : (s : List ℕ) → Q 1 → Q 2 → Q 3 → Q 4 → Q 8 → Q (header-fault s .code)
-  unfolding header-fault header-bytes
+  unfolding header-fault
   header-codes s q₁ q₂ q₃ q₄ q₈ =
-      then-codes Q _ _
-      (then-codes Q _ _
-      (then-codes Q _ _
-      (then-codes Q _ _ (then-codes Q _ _ (byte-codes Q s 0 0x46 0x46 2 q₀ q₁ q₂) (byte-codes Q s 1 0x4E 0x4E 2 q₀ q₁ q₂)) (byte-codes Q s 2 1 8 3 q₀ q₁ q₃))
-      (byte-codes Q s 3 0 64 4 q₀ q₁ q₄))
-      (byte-codes Q s 4 0 64 4 q₀ q₁ q₄))
-      (length-codes Q (length s) _ q₀ q₁ q₈)
+      let byte : (k low high code : ℕ) → Q code → Q (byte-fault s k low high code .code) = λ k low high code. byte-cases OfCode s k low high code q₀ (λ _. q₁) in
+      then-cases OfCode _ _
+      (bytes-cases OfCode s (byte 0 0x46 0x46 2 q₂) (byte 1 0x4E 0x4E 2 q₂) (byte 2 1 8 3 q₃) (byte 3 0 64 4 q₄) (byte 4 0 64 4 q₄))
+      (length-cases OfCode (length s) _ q₀ (λ _. q₁) q₈)
 
   pub first-codes : (code : ℕ → ℕ → ℕ) (l : List ℕ) (at : ℕ) → ((P N : ℕ) → Q (code P N)) → Q (first-fault code l at .code)
-  unfolding first-fault
-  first-codes code [] at f = q₀
-  first-codes code (P ∷ []) at f = q₀
-  first-codes code (P ∷ N ∷ l) at f =
-      elim (eqb (code P N) 0) as (λ t. Q (cond t (first-fault code l (at + 2)) (fault (code P N) at) .code)) [
-        | true ↦ first-codes code l (at + 2) f
-        | false ↦ f P N
-      ]
+  first-codes code l at f = first-cases OfCode q₀ code l at (λ P N k h. f P N)
 
   pub cube-codes : (n P N : ℕ) → Q 5 → Q 6 → Q (cube-code n P N)
   unfolding cube-code
-  cube-codes n P N q₅ q₆ =
-      elim (any 8 (λ i. leb n i && cube-names P N i)) as (λ t. Q (cond t 5 (cond (any 8 (λ i. has P i && has N i)) 6 0))) [
-        | true ↦ q₅
-        | false ↦ elim (any 8 (λ i. has P i && has N i)) as (λ t. Q (cond t 6 0)) [ true ↦ q₆ | false ↦ q₀ ]
-      ]
+  cube-codes n P N q₅ q₆ = cond-cases Q (any 8 (λ i. leb n i && cube-names P N i)) 5 _ q₅ (cond-cases Q (any 8 (λ i. has P i && has N i)) 6 0 q₆ q₀)
 
   pub clash-codes : (n : ℕ) (off : List ℕ) (P N : ℕ) → Q 7 → Q (clash-code n off P N)
   unfolding clash-code
-  clash-codes n off P N q₇ = elim (some-cube (cubes-share n P N) off) as (λ t. Q (cond t 7 0)) [ true ↦ q₇ | false ↦ q₀ ]
+  clash-codes n off P N q₇ = cond-cases Q (some-cube (cubes-share n P N) off) 7 0 q₇ q₀
 
 -- ---- places
-
-pub first-within : (code : ℕ → ℕ → ℕ) (l : List ℕ) (at : ℕ) → (first-fault code l at .code ≡ 0 → ⊥) → first-fault code l at .place + 2 ≤ at + length l
-unfolding first-fault
-first-within code [] at e = absurd (e refl)
-first-within code (P ∷ []) at e = absurd (e refl)
-first-within code (P ∷ N ∷ l) at e =
-    (elim (eqb (code P N) 0) as (λ t. (cond t (first-fault code l (at + 2)) (fault (code P N) at) .code ≡ 0 → ⊥) → cond t (first-fault code l (at + 2)) (fault (code P N) at) .place + 2 ≤ at + length (P ∷ N ∷ l)) [
-      | true ↦ λ f. omega (arith, first-within code l (at + 2) f)
-      | false ↦ λ f. omega arith
-    ])
-    e
 
 on-end : (s : List ℕ) → Framed s → cubes-at s + length (on-list s) ≤ length s
 unfolding on-list
@@ -73,26 +73,46 @@ abbrev of-cubes : ℕ → Bool
 of-cubes code = leb 5 code && leb code 7
 
 pub cubes-place : (s : List ℕ) → is-cubes (record-fault s) ≡ true → record-fault s .place + 2 ≤ length s
-unfolding record-fault
 cubes-place s =
-    then-elim Placed _ _
-    (λ _.
-    then-elim Placed _ _
-    (λ _ e. absurd (false≢true (sym (header-codes (λ (code : ℕ). of-cubes code ≡ false) refl s refl refl refl refl refl) ∙ e)))
-    (λ z e.
-    let h = header-sound s z in
-    let w = first-within (cube-code (inputs s)) (drop (cubes-at s) s) (cubes-at s) (unsound (cubes-fault s) e) in
-    omega (arith, length-drop (cubes-at s) s)))
-    (λ z e.
-    let h = header-sound s (then-both _ _ z .0) in
-    let w = first-within (clash-code (inputs s) (off-list s)) (on-list s) (cubes-at s) (unsound (clash-fault s) e) in
-    le-trans w (on-end s h))
+    record-cases Placed s (λ e. absurd (false≢true (sym (header-codes (λ (code : ℕ). of-cubes code ≡ false) refl s refl refl refl refl refl) ∙ e)))
+    (λ h. within (cube-code (inputs s)) (drop (cubes-at s) s) (omega (arith, length-drop (cubes-at s) s)))
+    (λ h. within (clash-code (inputs s) (off-list s)) (on-list s) (on-end s h))
   where
     Placed : Fault → Type 0
     Placed f = is-cubes f ≡ true → f .place + 2 ≤ length s
 
-    unsound : (f : Fault) → is-cubes f ≡ true → f .code ≡ 0 → ⊥
-    unsound f e z = false≢true (sym (ap of-cubes z) ∙ e)
+    within : (code : ℕ → ℕ → ℕ) (l : List ℕ) → cubes-at s + length l ≤ length s → Placed (first-fault code l (cubes-at s))
+    within code l fits = first-cases Placed (λ e. absurd (false≢true e)) code l (cubes-at s) (λ P N k h e. le-trans h fits)
+
+-- every place is within the longest record, or just after it
+pub record-place : (s : List ℕ) → record-fault s .place ≤ 261
+unfolding header-fault
+record-place s =
+    record-cases Near s
+    (then-elim Near _ _ (λ _. bytes-cases Near s (byte 0 _ _ _ zero-le) (byte 1 _ _ _ (omega arith)) (byte 2 _ _ _ (omega arith)) (byte 3 _ _ _ (omega arith)) (byte 4 _ _ _ (omega arith)))
+    (λ z. let h = bytes-sound s z in omega (arith, length-place (length s) (record-end s))))
+    (λ h. within (cube-code (inputs s)) (drop (cubes-at s) s) h (omega (arith, length-drop (cubes-at s) s)))
+    (λ h. within (clash-code (inputs s) (off-list s)) (on-list s) h (on-end s h))
+  where
+    Near : Fault → Type 0
+    Near f = f .place ≤ 261
+
+    byte : (k low high code : ℕ) → k ≤ 261 → Near (byte-fault s k low high code)
+    byte k low high code h = le-trans (byte-place s k low high code) h
+
+    within : (code : ℕ → ℕ → ℕ) (l : List ℕ) → Framed s → cubes-at s + length l ≤ length s → Near (first-fault code l (cubes-at s))
+    within code l h fits = first-cases Near zero-le code l (cubes-at s) (λ P N k l. omega arith)
+
+-- so with two records
+pub both-place : (f g : List ℕ) → both-read f g .place ≤ 261
+unfolding both-read by
+both-place f g =
+    chosen-elim Near (record-fault f .code) _ _ (λ _. record-place f)
+    (λ _. chosen-elim Near (record-fault g .code) _ _ (λ _. record-place g)
+    (λ _. cond-cases Near (eqb (inputs f) (inputs g)) fine (refused 9 2 2) zero-le (omega arith)))
+  where
+    Near : Answer → Type 0
+    Near a = a .place ≤ 261
 
 -- a sound record has no cube at fault
 pub sound-no-cube : (f : Fault) → f .code ≡ 0 → is-cubes f ≡ false

@@ -24,10 +24,9 @@ use Rattle.cubes.proofs.Lists.{each-map, some-same, lists-meet}
 use Rattle.rules.specs.Lists.{each-in}
 use Rattle.rules.specs.Rules.{follows}
 use Rattle.rules.proofs.Lists.{some-if, each-some, getD-in}
-use Rattle.answers.specs.Answers.{fine, refused, by}
-use Rattle.answers.proofs.Faults.{by-both}
+use Rattle.answers.specs.Answers.{by}
 use Rattle.records.specs.Records.{inputs, on-list, off-list, record-fault, both-read}
-use Rattle.records.proofs.Frame.{Framed, record-sound}
+use Rattle.records.proofs.Frame.{Framed, record-sound, both-fine}
 use Rattle.records.proofs.Cubes.{Bytes, CleanList, all-clean, on-each, off-each}
 use Rattle.wirings.specs.Wirings.{input-of, inverted, uses, straight, apart, served, read-at, disagree-at, agrees}
 use Rattle.wirings.specs.Pairs.{asks-one, asks-zero, separates, lands, carried-pos, carried-neg, side, against, pairs, of-pair}
@@ -272,15 +271,7 @@ unfolding both-read by
 both-good f g ok = simp (eq-eqb (record-fault f .code) 0 (ok .fine-f), eq-eqb (record-fault g .code) 0 (ok .fine-g), eq-eqb (inputs f) (inputs g) (ok .equal))
 
 pub both-sound : (f g : List ℕ) → Bytes f → Bytes g → both-read f g .code ≡ 0 → Accepted f g
-unfolding both-read
-both-sound f g bytes-f bytes-g e =
-    let first = by-both 1 (record-fault f) _ e in
-    let second = by-both 2 (record-fault g) _ (first .1) in
-    record { bytes-f = bytes-f; bytes-g = bytes-g; fine-f = first .0; fine-g = second .0; equal = same-inputs (eqb (inputs f) (inputs g)) refl (second .1) }
-  where
-    same-inputs : (t : Bool) → eqb (inputs f) (inputs g) ≡ t → cond t fine (refused 9 2 2) .code ≡ 0 → inputs f ≡ inputs g
-    same-inputs true q h = eqb-true _ _ q
-    same-inputs false q h = absurd (omega (arith, h))
+both-sound f g bytes-f bytes-g e = let x = both-fine f g e in record { bytes-f = bytes-f; bytes-g = bytes-g; fine-f = x .0; fine-g = x .1; equal = x .2 }
 
 -- both end where their headers say
 pub framed-both : (f g : List ℕ) → Accepted f g → Framed f × Framed g

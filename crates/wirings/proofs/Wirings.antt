@@ -79,21 +79,27 @@ wirings-rise n small =
 -- ---- each wiring, and nothing else
 
 -- a wiring: a phase, and n choices that may follow one another
-pub wiring-is : (n q : ℕ) (w : List ℕ) → is-wiring n (q ∷ w) ≡ ltb q 2 && eqb (length w) n && follows (straight n) [] w
+wiring-is : (n q : ℕ) (w : List ℕ) → is-wiring n (q ∷ w) ≡ ltb q 2 && eqb (length w) n && follows (straight n) [] w
 unfolding is-wiring
 wiring-is n q w = and-assoc (ltb q 2 && eqb (length w) n) (each-in (is-choice n) w) (apart w) ∙ ap (λ (t : Bool). ltb q 2 && eqb (length w) n && t) (sym (follows-is n w))
+
+pub wiring-parts : (n q : ℕ) (w : List ℕ) → is-wiring n (q ∷ w) ≡ true → (q < 2) × (length w ≡ n) × (follows (straight n) [] w ≡ true)
+wiring-parts n q w e =
+    let parts = sym (wiring-is n q w) ∙ e in
+    let sized = both-left (ltb q 2 && eqb (length w) n) _ parts in
+    (ltb-true q 2 (both-left (ltb q 2) _ sized), eqb-true (length w) n (both-right (ltb q 2) _ sized), both-right (ltb q 2 && eqb (length w) n) _ parts)
+
+pub parts-wiring : (n q : ℕ) (w : List ℕ) → q < 2 → length w ≡ n → follows (straight n) [] w ≡ true → is-wiring n (q ∷ w) ≡ true
+parts-wiring n q w h e f = wiring-is n q w ∙ both (both (lt-ltb q 2 h) (eq-eqb (length w) n e)) f
 
 -- the list has every wiring, and only wirings
 pub wiring-in : (n : ℕ) (v : List ℕ) → is-wiring n v ≡ true → In v (wirings n)
 unfolding is-wiring wirings run
 wiring-in n [] e = absurd (false≢true e)
 wiring-in n (q ∷ w) e =
-    let parts = sym (wiring-is n q w) ∙ e in
-    let sized = both-left (ltb q 2 && eqb (length w) n) (follows (straight n) [] w) parts in
-    in-flat (of-phase n) q (q ∷ w) (0 ∷ 1 ∷ []) (run-in q 0 2 (omega arith) (ltb-true q 2 (both-left (ltb q 2) (eqb (length w) n) sized)))
-    (in-map (λ (w : List ℕ). q ∷ w) w (completions (straight n) n [])
-    (subst (λ (k : ℕ). In w (completions (straight n) k [])) (eqb-true (length w) n (both-right (ltb q 2) (eqb (length w) n) sized))
-    (completion-in (straight n) [] w (both-right (ltb q 2 && eqb (length w) n) (follows (straight n) [] w) parts))))
+    let x = wiring-parts n q w e in
+    in-flat (of-phase n) q (q ∷ w) (0 ∷ 1 ∷ []) (run-in q 0 2 (omega arith) (x .0))
+    (in-map (λ (w : List ℕ). q ∷ w) w (completions (straight n) n []) (subst (λ (k : ℕ). In w (completions (straight n) k [])) (x .1) (completion-in (straight n) [] w (x .2))))
 
 in-wiring : (n : ℕ) (v : List ℕ) → In v (wirings n) → is-wiring n v ≡ true
 unfolding wirings run
@@ -101,8 +107,7 @@ in-wiring n v i =
     let x = flat-in (of-phase n) v (0 ∷ 1 ∷ []) i in
     let y = map-in (λ (w : List ℕ). x .0 ∷ w) v (completions (straight n) n []) (x .2) in
     let c = completion-extends (straight n) n [] (y .0) (y .1) in
-    ap (is-wiring n) (y .2 ∙ ap (λ (w : List ℕ). x .0 ∷ w) (c .1)) ∙ wiring-is n (x .0) (c .0)
-    ∙ both (both (lt-ltb (x .0) 2 (in-run (x .0) 0 2 (x .1) .1)) (eq-eqb (length (c .0)) n (c .2))) (c .3)
+    ap (is-wiring n) (y .2 ∙ ap (λ (w : List ℕ). x .0 ∷ w) (c .1)) ∙ parts-wiring n (x .0) (c .0) (in-run (x .0) 0 2 (x .1) .1) (c .2) (c .3)
 
 -- each wiring stands in the list once
 pub wirings-once : (n : ℕ) → n ≤ 16 → (v : List ℕ) → times v (wirings n) ≡ cond (is-wiring n v) 1 0

@@ -1,0 +1,81 @@
+// The checker on the claims that document 01 names, and on others that show the order of its tests.
+use crate::functions::CONJ;
+use crate::functions::CONST;
+use crate::functions::DISJ;
+use crate::functions::ODD;
+use crate::functions::OPEN;
+use crate::functions::WIRE;
+use crate::show;
+
+// Two trees of four closings each.
+const CONJ_ODD: [u8; 29] =
+    *b"\x52\x46\x02\xFF\x01\x00\x01\x01\x00\x00\x01\x00\x00\x01\x00\x01\xFF\x01\x00\x01\x01\x00\x00\x01\x00\x01\x01\x00\x00";
+
+// The checker's answer, then the claim.
+pub fn check(name: &[u8], f: &[u8], g: &[u8], claim: &[u8]) {
+    let answer = checker::check(f, g, claim);
+    show::text(b"Check ");
+    show::answer(name, answer);
+    show::hex(claim);
+    show::text(b"\n");
+}
+
+// Claims on Conj and Disj.
+fn conj_disj(claim: &[u8]) {
+    check(b"Conj to Disj", &CONJ, &DISJ, claim);
+}
+
+// Claims on Const and Wire.
+fn const_wire(claim: &[u8]) {
+    check(b"Const to Wire", &CONST, &WIRE, claim);
+}
+
+// The cases marked *, claims that the matcher has to find among them.
+pub fn starred() {
+    conj_disj(b"\x4D\x54\x02\x01\x10\x11");
+    check(b"Conj to Odd", &CONJ, &ODD, &CONJ_ODD);
+    const_wire(b"\x52\x46\x01\x00\x00\x00\x00\x00\x00");
+    check(b"Open to Wire", &OPEN, &WIRE, b"\x4D\x54\x01\x00\x00");
+    check(b"Open to Wire", &OPEN, &WIRE, b"\x4D\x54\x01\x00\x10");
+    check(b"Wire to Wire", &WIRE, &WIRE, b"\x4D\x54\x01\x00\x10");
+    check(b"Wire to Wire", &WIRE, &WIRE, b"\x4D\x54\x01\x01\x10");
+    check(b"Wire to Conj", &WIRE, &CONJ, b"");
+    conj_disj(b"\x4D\x54\x02\x01\x10\x10");
+    const_wire(b"\x52\x46\x01\xFF");
+    const_wire(b"\x52\x46\x01\x00\x00\x01");
+}
+
+// The header: mark, n, and a missing byte before its test.
+pub fn headers() {
+    conj_disj(b"");
+    conj_disj(b"\x00");
+    conj_disj(b"\x4D\x46");
+    conj_disj(b"\x52\x54");
+    conj_disj(b"\x4D\x54");
+    conj_disj(b"\x4D\x54\x03");
+    conj_disj(b"\x52\x46\x01");
+    conj_disj(b"\x4D\x54\x02");
+}
+
+// Match claims: the length before q, 12 and 13 byte by byte.
+pub fn matches() {
+    conj_disj(b"\x4D\x54\x02\x02\x10");
+    conj_disj(b"\x4D\x54\x02\x02\x10\x11\x00");
+    conj_disj(b"\x4D\x54\x02\x02\x10\x11");
+    conj_disj(b"\x4D\x54\x02\x01\x02\x12");
+    conj_disj(b"\x4D\x54\x02\x01\x10\x00");
+    conj_disj(b"\x4D\x54\x02\x01\x10\x12");
+}
+
+// Refusal trees: bytes in order, and nothing after them.
+pub fn trees() {
+    const_wire(b"\x52\x46\x01\x02");
+    const_wire(b"\x52\x46\x01\x00\x01");
+    const_wire(b"\x52\x46\x01\x01\x00");
+    const_wire(b"\x52\x46\x01\xFF\xFF");
+    const_wire(b"\x52\x46\x01\xFF\xFE");
+    const_wire(b"\x52\x46\x01\x00\x00\x00\x00\x00\x01");
+    const_wire(b"\x52\x46\x01\x00\x00\x00\x00\x00\x00\x00");
+    const_wire(b"\x52\x46\x01\xFF\x00\x00\x00\x00\x00\x00\x00\x00\x00");
+    check(b"Conj to Odd", &CONJ, &ODD, b"\x52\x46\x02\x00\x00\x00");
+}
