@@ -48,6 +48,15 @@ mod foreign {
             w_len: usize,
             q: u8,
         ) -> u64;
+
+        pub fn probe_check(
+            f: *const u8,
+            f_len: usize,
+            g: *const u8,
+            g_len: usize,
+            claim: *const u8,
+            claim_len: usize,
+        ) -> u64;
     }
 }
 
@@ -107,3 +116,9 @@ pub fn dead(f: &[u8], g: &[u8], w: &[u8], q: u8) -> u64 {
 
 /// The call for dead pairs, as a value.
 pub type DeadCall = fn(&[u8], &[u8], &[u8], u8) -> u64;
+
+/// Checks a claim about f and g: the packed answer.
+pub fn check(f: &[u8], g: &[u8], claim: &[u8]) -> u64 {
+    let len = claim.len();
+    unsafe { foreign::probe_check(f.as_ptr(), f.len(), g.as_ptr(), g.len(), claim.as_ptr(), len) }
+}

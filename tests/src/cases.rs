@@ -350,3 +350,117 @@ pub const DEAD: &[DeadCase] = &[
     dead("cube 63 and cube 63", LAST_PAIR, &[0x00], 0, pair(0, 63, 63)),
     dead("no pair under q 1", LAST_PAIR, &[0x00], 1, NOTHING),
 ];
+
+/// The checker's answer to a claim about two functions.
+pub struct ClaimCase {
+    pub name: &'static str,
+    pub f: &'static [u8],
+    pub g: &'static [u8],
+    pub claim: &'static [u8],
+    /// Code, kind, record, place.
+    pub numbers: [u64; 4],
+}
+
+impl ClaimCase {
+    pub fn answer(&self) -> Answer {
+        let [code, kind, record, place] = self.numbers;
+        Answer { code, kind, record, place }
+    }
+}
+
+/// f and g.
+type Records = [&'static [u8]; 2];
+
+/// Accepted as a claim of this kind, all of it.
+const fn holds(name: &'static str, [f, g]: Records, claim: &'static [u8], kind: u64) -> ClaimCase {
+    ClaimCase { name, f, g, claim, numbers: [0, kind, 0, claim.len() as u64] }
+}
+
+/// The claim is refused with this code at this place.
+const fn fails(
+    name: &'static str,
+    [f, g]: Records,
+    claim: &'static [u8],
+    [code, place]: [u64; 2],
+) -> ClaimCase {
+    ClaimCase { name, f, g, claim, numbers: [code, 0, 3, place] }
+}
+
+/// One of the records is refused, whatever the claim.
+const fn unread(
+    name: &'static str,
+    [f, g]: Records,
+    claim: &'static [u8],
+    [code, record, place]: [u64; 3],
+) -> ClaimCase {
+    ClaimCase { name, f, g, claim, numbers: [code, 0, record, place] }
+}
+
+/// The refusal that 01 prints for Conj to Odd.
+pub const CONJ_ODD_CLAIM: &[u8] = &[
+    0x52, 0x46, 0x02, 0xFF, 0x01, 0x00, 0x01, 0x01, 0x00, 0x00, 0x01, 0x00, 0x00, 0x01, 0x00, 0x01,
+    0xFF, 0x01, 0x00, 0x01, 0x01, 0x00, 0x00, 0x01, 0x00, 0x01, 0x01, 0x00, 0x00,
+];
+
+/// The same with the first child of the first tree split once more: its pair
+/// stays dead under both choices for input 1.
+const CONJ_ODD_DEEPER: &[u8] = &[
+    0x52, 0x46, 0x02, 0xFF, 0xFF, 0x01, 0x00, 0x01, 0x01, 0x00, 0x01, 0x01, 0x00, 0x00, 0x01, 0x00,
+    0x00, 0x01, 0x00, 0x01, 0xFF, 0x01, 0x00, 0x01, 0x01, 0x00, 0x00, 0x01, 0x00, 0x01, 0x01, 0x00,
+    0x00,
+];
+
+pub const CLAIMS: &[ClaimCase] = &[
+    holds("Conj to Disj", [CONJ, DISJ], &[0x4D, 0x54, 2, 1, 0x10, 0x11], 1),
+    holds("Conj to Odd", [CONJ, ODD], CONJ_ODD_CLAIM, 2),
+    holds("Const to Wire", [CONST, WIRE], &[0x52, 0x46, 1, 0, 0, 0, 0, 0, 0], 2),
+    holds("Open to Wire", [OPEN, WIRE], &[0x4D, 0x54, 1, 0, 0x00], 1),
+    holds("Open to Wire, inverted", [OPEN, WIRE], &[0x4D, 0x54, 1, 0, 0x10], 1),
+    fails("Wire to Wire, inverted, q 0", [WIRE, WIRE], &[0x4D, 0x54, 1, 0, 0x10], [14, 0]),
+    holds("Wire to Wire, inverted, q 1", [WIRE, WIRE], &[0x4D, 0x54, 1, 1, 0x10], 1),
+    unread("Wire to Conj", [WIRE, CONJ], &[0x4D, 0x54, 1, 0, 0x00], [9, 2, 2]),
+    fails("an input of g twice", [CONJ, DISJ], &[0x4D, 0x54, 2, 1, 0x10, 0x10], [13, 5]),
+    fails("a split cut short", [CONST, WIRE], &[0x52, 0x46, 1, 0xFF], [1, 4]),
+    fails("v beyond its list", [CONST, WIRE], &[0x52, 0x46, 1, 0, 0, 1], [15, 5]),
+    // By hand, from the order of the tests.
+    fails("an empty claim", [CONJ, DISJ], &[], [1, 0]),
+    fails("a wrong first byte, alone", [CONJ, DISJ], &[0x46], [2, 0]),
+    fails("half a mark", [CONJ, DISJ], &[0x4D], [1, 1]),
+    fails("half the other mark", [CONJ, DISJ], &[0x52], [1, 1]),
+    fails("the marks mixed", [CONJ, DISJ], &[0x4D, 0x46], [2, 1]),
+    fails("the marks mixed otherwise", [CONJ, DISJ], &[0x52, 0x54], [2, 1]),
+    fails("no n", [CONJ, DISJ], &[0x4D, 0x54], [1, 2]),
+    fails("no n in a refusal", [CONJ, DISJ], &[0x52, 0x46], [1, 2]),
+    fails("another n, and cut", [CONJ, DISJ], &[0x4D, 0x54, 3], [10, 2]),
+    fails("another n in a refusal", [CONJ, DISJ], &[0x52, 0x46, 1], [10, 2]),
+    fails("a match claim of n alone", [CONJ, DISJ], &[0x4D, 0x54, 2], [1, 3]),
+    fails("a refusal without trees", [CONJ, DISJ], &[0x52, 0x46, 2], [1, 3]),
+    fails("cut, with a bad q", [CONJ, DISJ], &[0x4D, 0x54, 2, 2, 0x10], [1, 5]),
+    fails("too long, with a bad q", [CONJ, DISJ], &[0x4D, 0x54, 2, 2, 0, 1, 1], [8, 6]),
+    fails("q is 2, and bad bytes", [CONJ, DISJ], &[0x4D, 0x54, 2, 2, 9, 9], [11, 3]),
+    fails("input 2 of 2", [CONJ, DISJ], &[0x4D, 0x54, 2, 1, 0x02, 0x02], [12, 4]),
+    fails("input 2 of 2, inverted", [CONJ, DISJ], &[0x4D, 0x54, 2, 1, 0x10, 0x12], [12, 5]),
+    fails("plain and inverted", [CONJ, DISJ], &[0x4D, 0x54, 2, 1, 0x11, 0x01], [13, 5]),
+    fails("q 0 where q 1 agrees", [CONJ, DISJ], &[0x4D, 0x54, 2, 0, 0x10, 0x11], [14, 0]),
+    holds("the inputs of g crossed", [CONJ, DISJ], &[0x4D, 0x54, 2, 1, 0x11, 0x10], 1),
+    holds("a split although a pair is dead", [CONJ, ODD], CONJ_ODD_DEEPER, 2),
+    holds(
+        "splits at both roots although a pair is dead",
+        [CONST, WIRE],
+        &[0x52, 0x46, 1, 0xFF, 0, 0, 0, 0, 0, 0, 0xFF, 0, 0, 0, 0, 0, 0],
+        2,
+    ),
+    fails("a pair not dead at the root", [CONJ, ODD], &[0x52, 0x46, 2, 1, 0, 1], [17, 3]),
+    fails("a dead one for another child", [CONJ, ODD], &[0x52, 0x46, 2, 0xFF, 1, 0, 0], [17, 4]),
+    fails("u beyond, and v missing", [CONST, WIRE], &[0x52, 0x46, 1, 0, 1], [15, 4]),
+    fails("u good, and v missing", [CONST, WIRE], &[0x52, 0x46, 1, 0, 0], [1, 5]),
+    fails("u of an empty list", [CONST, WIRE], &[0x52, 0x46, 1, 1, 0, 0], [15, 4]),
+    fails("v of an empty list", [WIRE, CONST], &[0x52, 0x46, 1, 0, 0, 0], [15, 5]),
+    fails("a node of 2", [CONST, WIRE], &[0x52, 0x46, 1, 2, 0, 0], [15, 3]),
+    fails("a node of FE at depth n", [CONST, WIRE], &[0x52, 0x46, 1, 0xFF, 0xFE], [15, 4]),
+    fails("a split at depth n", [CONST, WIRE], &[0x52, 0x46, 1, 0xFF, 0xFF], [16, 4]),
+    fails("one tree alone", [CONST, WIRE], &[0x52, 0x46, 1, 0, 0, 0], [1, 6]),
+    fails("a third tree", [CONST, WIRE], &[0x52, 0x46, 1, 0, 0, 0, 0, 0, 0, 0, 0, 0], [8, 9]),
+    unread("f cut", [&[0x46], CONJ], &[], [1, 1, 1]),
+    unread("g cut, and of another n", [WIRE, &[0x46, 0x4E, 2]], &[], [1, 2, 3]),
+];

@@ -8,14 +8,15 @@
 //! - `random`: a generator with fixed seeds, and the functions made by it;
 //! - `records`: the calls on function records, held against the reference;
 //! - `wirings`: the call for dead pairs under a partial wiring, likewise;
+//! - `claims`: the checker, likewise;
 //! - `cases`: the small functions and cases that 01 names, with its numbers;
 //! - `tally`, `show`: what was compared, and how bytes and answers are printed.
 //!
-//! Claims, checker and matcher each get a module of the reference and a module
-//! beside `records` and `wirings`.
+//! The matcher gets a module of the reference and a module beside `claims`.
 
 pub mod calls;
 pub mod cases;
+pub mod claims;
 pub mod random;
 pub mod records;
 pub mod reference;

@@ -72,7 +72,7 @@ pub fn small_functions(trial: &mut Trial) -> Outcome {
 }
 
 /// Calls `visit` with `start` and every continuation of up to `more` bytes.
-fn every_string(
+pub fn every_string(
     alphabet: &[u8],
     start: &mut Vec<u8>,
     more: usize,

@@ -1,10 +1,10 @@
 //! Dead pairs, by what they are for: no completion separates them.
 //!
 //! 01 also has a rule on literals for this, and says that it comes to the same.
-//! The calls follow the rule; here all completions are tried. A test below holds
-//! the two against each other.
+//! The calls follow the rule; here all completions are tried, unless there are
+//! too many. A test below holds the two against each other.
 
-use super::pair::{separates, Pair};
+use super::pair::{asks, separates, Pair};
 use super::pattern::Cube;
 use super::two::{two, Two};
 use super::wiring::{BadWiring, Partial};
@@ -14,7 +14,45 @@ pub fn dead(completions: &[Partial], of_f: Cube, of_g: Cube) -> bool {
     !completions.iter().any(|inputs| separates(inputs, of_f, of_g))
 }
 
+/// The rule on literals: no placed literal separates the pair, and either the
+/// cube of f has no literal on an unplaced input or the cube of g has none on an
+/// unused input.
+pub fn dead_by_the_rule(partial: &Partial, of_f: Cube, of_g: Cube) -> bool {
+    let Partial { n, placed } = partial;
+    let no_unplaced = (placed.len()..*n).all(|i| asks(of_f, i).is_none());
+    let no_unused = (0..*n).all(|j| partial.uses(j) || asks(of_g, j).is_none());
+    !separates(partial, of_f, of_g) && (no_unplaced || no_unused)
+}
+
+/// Up to so many inputs there are few enough completions, 384 at most.
+const TRIED: usize = 4;
+
+/// Whether a pair is dead under a partial wiring: by its completions for few
+/// inputs, by the rule for more.
+pub fn is_dead(partial: &Partial, of_f: Cube, of_g: Cube) -> bool {
+    if partial.n > TRIED {
+        return dead_by_the_rule(partial, of_f, of_g);
+    }
+    if partial.is_whole() {
+        return !separates(partial, of_f, of_g);
+    }
+    partial.free().into_iter().all(|choice| is_dead(&partial.with(choice), of_f, of_g))
+}
+
 impl Two {
+    /// The pairs that are dead under a partial wiring, in order, by the rule:
+    /// a claim made from them is read by a checker that tries completions.
+    pub fn dead_pairs<'a>(
+        &'a self,
+        q: bool,
+        partial: &'a Partial,
+    ) -> impl Iterator<Item = Pair> + 'a {
+        let pairs = self.pairs(q);
+        pairs
+            .filter(|&(_, of_f, of_g)| dead_by_the_rule(partial, of_f, of_g))
+            .map(|(pair, ..)| pair)
+    }
+
     /// The first pair, in order of s, u, v, that is dead under a partial wiring.
     pub fn first_dead(&self, q: bool, partial: &Partial) -> Option<Pair> {
         let completions = partial.completions();
@@ -72,7 +110,6 @@ mod tests {
     use super::*;
     use crate::cases::DEAD;
     use crate::random::{any_cube, Random};
-    use crate::reference::pair::asks;
     use crate::reference::pattern::every_cube;
 
     #[test]
@@ -83,16 +120,6 @@ mod tests {
         }
     }
 
-    /// The rule on literals: no placed literal separates the pair, and either the
-    /// cube of f has no literal on an unplaced input or the cube of g has none on
-    /// an unused input.
-    fn by_the_rule(partial: &Partial, of_f: Cube, of_g: Cube) -> bool {
-        let Partial { n, placed } = partial;
-        let no_unplaced = (placed.len()..*n).all(|i| asks(of_f, i).is_none());
-        let no_unused = (0..*n).all(|j| partial.uses(j) || asks(of_g, j).is_none());
-        !separates(partial, of_f, of_g) && (no_unplaced || no_unused)
-    }
-
     #[test]
     fn the_rule_on_literals_comes_to_the_same() {
         let mut random = Random::new(8);
@@ -101,7 +128,7 @@ mod tests {
                 let completions = partial.completions();
                 for (of_f, of_g) in cubes(&mut random, n) {
                     let meant = dead(&completions, of_f, of_g);
-                    let ruled = by_the_rule(&partial, of_f, of_g);
+                    let ruled = dead_by_the_rule(&partial, of_f, of_g);
                     assert_eq!(ruled, meant, "{partial:?} {of_f:?} {of_g:?}");
                 }
             }

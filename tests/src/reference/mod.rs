@@ -6,6 +6,8 @@
 
 pub mod agreement;
 pub mod answer;
+pub mod checker;
+pub mod claim;
 pub mod dead;
 pub mod fault;
 pub mod pair;

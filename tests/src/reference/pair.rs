@@ -60,7 +60,7 @@ pub fn asks(cube: Cube, input: usize) -> Option<bool> {
 }
 
 /// Whether some literal of f's cube, carried over, is the opposite of a literal
-/// of g's cube. The wiring is whole.
+/// of g's cube. Under a partial wiring the placed inputs alone count.
 pub fn separates(inputs: &Partial, of_f: Cube, of_g: Cube) -> bool {
     inputs.placed.iter().enumerate().any(|(i, choice)| match asks(of_f, i) {
         Some(of_i) => {

@@ -65,9 +65,11 @@ impl Partial {
 
     /// The same with a choice for the next input.
     pub fn with(&self, choice: Choice) -> Partial {
-        let mut longer = self.clone();
-        longer.placed.push(choice);
-        longer
+        // With room for all: many of these are made.
+        let mut placed = Vec::with_capacity(self.n);
+        placed.extend(&self.placed);
+        placed.push(choice);
+        Partial { n: self.n, placed }
     }
 
     /// The whole wirings that start like this one, in order.

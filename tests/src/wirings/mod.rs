@@ -31,9 +31,9 @@ pub const DIFFERS: &str = "whole, does not agree";
 /// Two valid functions, with all that can be worked out before the wiring comes.
 pub struct Given {
     pub two: Two,
-    tables: Tables,
-    f: Vec<u8>,
-    g: Vec<u8>,
+    pub tables: Tables,
+    pub f: Vec<u8>,
+    pub g: Vec<u8>,
 }
 
 impl Given {

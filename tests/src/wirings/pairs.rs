@@ -90,8 +90,9 @@ fn fitting(random: &mut Random, f: &Function, wiring: &Wiring) -> Function {
     }
 }
 
-/// The cube of g that asks the same as a cube of f.
-fn carried(cube: Cube, inputs: &Partial) -> Cube {
+/// The cube of g that asks the same as a cube of f, whose literals are on placed
+/// inputs.
+pub fn carried(cube: Cube, inputs: &Partial) -> Cube {
     inputs.placed.iter().enumerate().fold(Cube::ALL, |so_far, (i, choice)| match asks(cube, i) {
         Some(side) => with(so_far, choice.j, side != choice.inverted),
         None => so_far,

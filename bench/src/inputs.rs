@@ -1,0 +1,205 @@
+//! The functions and claims that both sides work on, made with fixed seeds.
+
+use crate::plain::function::{Cube, Function};
+use crate::plain::wiring::Wiring;
+
+pub struct Input {
+    pub name: String,
+    pub f: Vec<u8>,
+    pub g: Vec<u8>,
+    pub claim: Vec<u8>,
+    /// How often it is run for one time taken.
+    pub times: u32,
+}
+
+/// What is timed.
+pub fn large() -> Vec<Input> {
+    let deepest = Make { n: 7, cubes: 16, literals: 4, tree: Tree::Deepest };
+    let own = Make { n: 6, cubes: 6, literals: 4, tree: Tree::Own };
+    vec![deepest.refusal(1), own.refusal(10), matching(8, 64, 4, 1_000)]
+}
+
+/// Small ones of every sort, whole, cut and with a byte changed.
+pub fn small() -> Vec<Input> {
+    let mut inputs = vec![];
+    // Enough cubes that no wiring fits at one of the first seeds.
+    for (n, cubes, literals) in [(3, 3, 2), (4, 8, 3), (5, 10, 3)] {
+        for tree in [Tree::Own, Tree::Deepest] {
+            inputs.push(Make { n, cubes, literals, tree }.refusal(1));
+        }
+        inputs.push(matching(n, cubes, literals, 1));
+    }
+    inputs.into_iter().flat_map(damaged).collect()
+}
+
+/// The input, and the same with its claim cut or changed at the last byte.
+fn damaged(input: Input) -> [Input; 3] {
+    let other = |what: &str, claim: Vec<u8>| Input {
+        name: format!("{}, {what}", input.name),
+        f: input.f.clone(),
+        g: input.g.clone(),
+        claim,
+        times: input.times,
+    };
+    let (&last, start) = input.claim.split_last().expect("a claim has bytes");
+    let cut = other("cut", start.to_vec());
+    let changed = other("changed", [start, &[last ^ 1]].concat());
+    [input, cut, changed]
+}
+
+// ---- Refusals ----
+
+#[derive(Clone, Copy)]
+enum Tree {
+    /// The matcher's own: the first dead pair closes, and a split only where none
+    /// is dead.
+    Own,
+    /// Split wherever it may be, closed at depth n by some dead pair.
+    Deepest,
+}
+
+/// A refusal of two random functions: their inputs, cubes in each list, literals
+/// in each cube, and how the trees are made.
+#[derive(Clone, Copy)]
+struct Make {
+    n: u8,
+    cubes: usize,
+    literals: u8,
+    tree: Tree,
+}
+
+impl Make {
+    fn refusal(self, times: u32) -> Input {
+        let Make { n, cubes, literals, tree } = self;
+        let how = match tree {
+            Tree::Own => "the matcher's own tree",
+            Tree::Deepest => "split everywhere",
+        };
+        let name = format!("n {n}, {cubes} + {cubes} cubes, {how}");
+        // Two functions that some wiring fits are passed over.
+        for seed in 1.. {
+            let mut random = Random(seed);
+            let f = function(&mut random, n, cubes, literals);
+            let g = function(&mut random, n, cubes, literals);
+            if let Some(claim) = self.claim(&mut random, &f, &g) {
+                return Input { name, f: record(&f), g: record(&g), claim, times };
+            }
+        }
+        unreachable!("there are seeds enough")
+    }
+
+    fn claim(self, random: &mut Random, f: &Function, g: &Function) -> Option<Vec<u8>> {
+        let mut claim = vec![0x52, 0x46, self.n];
+        for kept_apart in [[(&f.on, &g.off), (&f.off, &g.on)], [(&f.on, &g.on), (&f.off, &g.off)]] {
+            let mut pairs = vec![];
+            for (s, (of_f, of_g)) in (0..).zip(kept_apart) {
+                for (u, &one) in (0..).zip(of_f) {
+                    pairs.extend((0..).zip(of_g).map(|(v, &other)| ([s, u, v], one, other)));
+                }
+            }
+            self.put(random, &pairs, Wiring::new(self.n), &mut claim)?;
+        }
+        Some(claim)
+    }
+
+    /// Writes the tree below a wiring; nothing comes of it if a wiring agrees.
+    fn put(
+        self,
+        random: &mut Random,
+        pairs: &[([u8; 3], Cube, Cube)],
+        wiring: Wiring,
+        claim: &mut Vec<u8>,
+    ) -> Option<()> {
+        // The deepest tree starts its search anywhere: the cubes read should differ
+        // from closing to closing.
+        let from = match self.tree {
+            Tree::Own => Some(0),
+            Tree::Deepest => wiring.is_whole().then(|| random.below(pairs.len())),
+        };
+        let dead = from.and_then(|from| {
+            let mut all = pairs[from..].iter().chain(&pairs[..from]);
+            all.find(|(_, one, other)| wiring.dead(*one, *other))
+        });
+        if let Some((closing, ..)) = dead {
+            claim.extend(closing);
+            return Some(());
+        }
+        if wiring.is_whole() {
+            return None;
+        }
+        claim.push(0xFF);
+        for j in (0..self.n).filter(|&j| !wiring.uses(j)) {
+            self.put(random, pairs, wiring.place(j, false), claim)?;
+            self.put(random, pairs, wiring.place(j, true), claim)?;
+        }
+        Some(())
+    }
+}
+
+// ---- Matches ----
+
+/// A function and itself, straight.
+fn matching(n: u8, cubes: usize, literals: u8, times: u32) -> Input {
+    let f = record(&function(&mut Random(1), n, cubes, literals));
+    let mut claim = vec![0x4D, 0x54, n, 0];
+    claim.extend(0..n);
+    Input {
+        name: format!("n {n}, {cubes} + {cubes} cubes, a match"),
+        g: f.clone(),
+        f,
+        claim,
+        times,
+    }
+}
+
+// ---- Functions ----
+
+fn function(random: &mut Random, n: u8, cubes: usize, literals: u8) -> Function {
+    // The first cubes may leave no room for the last: then it starts anew.
+    const TRIES: usize = 10_000;
+    loop {
+        let (mut on, mut off): (Vec<Cube>, Vec<Cube>) = (vec![], vec![]);
+        for _ in 0..TRIES {
+            if on.len() == cubes && off.len() == cubes {
+                return Function { n, on, off };
+            }
+            let (list, other) =
+                if on.len() <= off.len() { (&mut on, &off) } else { (&mut off, &on) };
+            let next = cube(random, n, literals);
+            if other.iter().all(|one| one.apart(next)) {
+                list.push(next);
+            }
+        }
+    }
+}
+
+fn cube(random: &mut Random, n: u8, literals: u8) -> Cube {
+    let mut cube = Cube { p: 0, n: 0 };
+    while cube.inputs().count_ones() < literals.into() {
+        let bit = 1 << random.below(n.into());
+        if cube.inputs() & bit == 0 {
+            let side = if random.below(2) == 0 { &mut cube.p } else { &mut cube.n };
+            *side |= bit;
+        }
+    }
+    cube
+}
+
+fn record(f: &Function) -> Vec<u8> {
+    let mut record = vec![0x46, 0x4E, f.n, f.on.len() as u8, f.off.len() as u8];
+    record.extend(f.on.iter().chain(&f.off).flat_map(|cube| [cube.p, cube.n]));
+    record
+}
+
+/// splitmix64: the same seed gives the same numbers everywhere.
+struct Random(u64);
+
+impl Random {
+    fn below(&mut self, bound: usize) -> usize {
+        self.0 = self.0.wrapping_add(0x9E37_79B9_7F4A_7C15);
+        let mut z = self.0;
+        z = (z ^ (z >> 30)).wrapping_mul(0xBF58_476D_1CE4_E5B9);
+        z = (z ^ (z >> 27)).wrapping_mul(0x94D0_49BB_1331_11EB);
+        ((z ^ (z >> 31)) % bound as u64) as usize
+    }
+}

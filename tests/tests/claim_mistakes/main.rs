@@ -1,0 +1,34 @@
+//! That the comparison of claims can fail.
+//!
+//! Each mistake is the reference with one thing wrong, put in the place of the
+//! call. The sweep named beside it has to notice; the reference itself passes.
+//!
+//! - `answers`: the reference, which tells another answer than the one it found;
+//! - `rules`: a checker with a slot for each rule of wirings and trees, with
+//!   another rule in one of them.
+
+mod answers;
+mod rules;
+
+use zap_tests::claims::sweeps::{self, Sweep};
+use zap_tests::claims::{Call, Trial};
+
+/// What is wrong, the wrong call, and the sweep that has to notice.
+type Mistake = (&'static str, Call, Sweep);
+
+#[test]
+fn the_reference_passes() {
+    for sweep in [sweeps::short_claims, sweeps::match_claims, sweeps::forged_claims] {
+        for call in [answers::unchanged(), rules::unchanged()] {
+            assert_eq!(sweep(&mut Trial::new(call)), Ok(()));
+        }
+    }
+}
+
+#[test]
+fn every_mistake_is_noticed() {
+    for (name, call, sweep) in answers::mistakes().into_iter().chain(rules::mistakes()) {
+        let difference = sweep(&mut Trial::new(call)).err();
+        assert!(difference.is_some(), "not noticed: {name}");
+    }
+}
