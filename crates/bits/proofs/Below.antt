@@ -87,12 +87,6 @@ module _ (p q : ℕ → Bool) where
       (either (p (w .0)) (q (w .0)) (w .2)))
 
   -- tests that say the same below n are passed alike
-  pub every-same : (n : ℕ) → ((k : ℕ) → k < n → p k ≡ q k) → every n p ≡ every n q
-  every-same n f =
-      same-test (every n p) (every n q)
-      (λ e. every-if q n (λ k h. sym (f k h) ∙ every-at p n e k h))
-      (λ e. every-if p n (λ k h. f k h ∙ every-at q n e k h))
-
   pub any-same : (n : ℕ) → ((k : ℕ) → k < n → p k ≡ q k) → any n p ≡ any n q
   any-same n f =
       same-test (any n p) (any n q)

@@ -133,10 +133,6 @@ bit-pow i j = ⊎-elim below (λ h. ⊎-elim same above (eq-or-lt-of-le h)) (bel
     above : j < i → bit i (2 ^ j) ≡ cond (eqb i j) 1 0
     above h = simp (ne-eqb i j (λ e. omega arith)) (bit-above i (suc j) (pow-lt (le-refl (suc j))) h)
 
--- a bit set in a mask
-pub bit-set : (i j x : ℕ) → bit i (bitOr x (2 ^ j)) ≡ max (bit i x) (cond (eqb i j) 1 0)
-bit-set i j x = bit-or i x (2 ^ j) ∙ ap (max (bit i x)) (bit-pow i j)
-
 -- all bits of a width turned round
 pub bit-not : (w i x : ℕ) → x < 2 ^ w → i < w → bit i (2 ^ w - 1 - x) + bit i x ≡ 1
 bit-not zero i x h l = absurd (not-suc-le-zero l)

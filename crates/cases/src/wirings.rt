@@ -21,14 +21,11 @@ struct Sought {
     shown: bool,
 }
 
-// Whether both records are accepted; they then end where their headers say.
+// Whether both records are accepted and have as many inputs; they then end where their headers say.
 fn sound(f: &[u8], g: &[u8]) -> bool
     ensures { λ r. ⌜ (r ≡ true → (record-end (now (f .entry)) ≡ length (now (f .entry))) × (record-end (now (g .entry)) ≡ length (now (g .entry)))) ⌝ }
 {
-    if records::record_fault(f).code != 0 {
-        return false;
-    }
-    records::record_fault(g).code == 0
+    records::both(f, g).code == 0
 }
 
 fn give(w: Wiring, choice: u8) -> Step

@@ -17,19 +17,18 @@ use Rattle.answers.specs.declared.Answer.{Answer}
 use Rattle.answers.specs.declared.Fault.{Fault}
 use Rattle.answers.specs.Answers.{accepted, fault, sound, length-fault, _then_}
 use Rattle.answers.proofs.Faults.{then-both, byte-sound, byte-good, length-sound, length-good, test-sound, by-next, by-both, or-else-both, or-else-next}
-use Rattle.records.specs.Records.{inputs, both-read}
-use Rattle.records.proofs.Cubes.{Bytes}
+use Rattle.records.specs.Records.{inputs, both-read, Bytes, Accepted}
+use Rattle.records.proofs.Frame.{both-good, both-sound}
 use Rattle.wirings.specs.Wirings.{straight, is-wiring, agreeing}
 use Rattle.wirings.specs.Pairs.{Pair}
 use Rattle.wirings.proofs.Wirings.{wiring-parts, parts-wiring}
-use Rattle.wirings.proofs.Agreement.{Accepted, both-good, both-sound}
 use Rattle.wirings.proofs.Death.{in-pair, pair-in}
 use Rattle.claims.specs.Trees.{tree-bytes}
 use Rattle.claims.specs.Claims.{IsMatch, IsRefusal, match-claim, refusal-claim, names-pair, closes, right-for}
 use Rattle.claims.specs.Reading.{read-to, _onward_}
 use Rattle.claims.proofs.Reading.{onward-both, onward-next, StandsAt, stands-join, stands-first, stands-rest, stands-byte, stands-there, Stands, Reads, ReadsClosings, tree-stands, tree-reads}
 use Rattle.claims.proofs.Refusals.{names-in, in-names}
-use Rattle.checker.specs.Checking.{header-fault, match-fault, closing-fault, tree-fault, refusal-fault, claim-fault, claim-kind, checking}
+use Rattle.checker.specs.Checking.{header-fault, match-fault, closing-fault, tree-fault, refusal-fault, claim-fault, kind-of, checking}
 use Rattle.checker.proofs.Making.{choices-sound, choices-good}
 use Rattle.checker.proofs.Closings.{index-sound, index-good}
 
@@ -203,8 +202,8 @@ module _ (f g : List ℕ) where
   IsClaim c kind = ((kind ≡ 1) × IsMatch f g c) ⊎ ((kind ≡ 2) × IsRefusal f g c)
 
   -- what has no fault is one or the other, by its first byte
-  pub claim-sound : (c : List ℕ) → claim-fault f g c .code ≡ 0 → IsClaim c (claim-kind c)
-  unfolding claim-fault
+  pub claim-sound : (c : List ℕ) → claim-fault f g c .code ≡ 0 → IsClaim c (kind-of (getD c 0 0))
+  unfolding claim-fault kind-of
   claim-sound c e = go (leb (length c) 0) (eqb (getD c 0 0) 0x4D) (eqb (getD c 0 0) 0x52) refl refl e
     where
       go : (short match refusal : Bool) → eqb (getD c 0 0) 0x4D ≡ match → eqb (getD c 0 0) 0x52 ≡ refusal
@@ -218,18 +217,20 @@ module _ (f g : List ℕ) where
 
 module _ (f g c : List ℕ) where
   -- no fault is found: the kind, and the claim's length
-  answer-is : both-read f g .code ≡ 0 → claim-fault f g c .code ≡ 0 → checking f g c ≡ accepted (claim-kind c) (length c)
+  answer-is : both-read f g .code ≡ 0 → claim-fault f g c .code ≡ 0 → checking f g c ≡ accepted (kind-of (getD c 0 0)) (length c)
   unfolding checking
   answer-is read fine = or-else-next _ _ read ∙ sym (by-next 3 _ _ _ _ refl fine refl)
 
   -- each match and each refusal by the rules is accepted
   pub match-accepted : Accepted f g → IsMatch f g c → checking f g c ≡ accepted 1 (length c)
+  unfolding kind-of
   match-accepted ok m =
-      answer-is (both-good f g ok) (ap (λ (f : Fault). f .code) (match-good f g c m)) ∙ ap (λ (l : List ℕ). accepted (claim-kind l) (length c)) (m .bytes)
+      answer-is (both-good f g ok) (ap (λ (f : Fault). f .code) (match-good f g c m)) ∙ ap (λ (l : List ℕ). accepted (kind-of (getD l 0 0)) (length c)) (m .bytes)
 
   pub refusal-accepted : Accepted f g → IsRefusal f g c → checking f g c ≡ accepted 2 (length c)
+  unfolding kind-of
   refusal-accepted ok r =
-      answer-is (both-good f g ok) (ap (λ (f : Fault). f .code) (refusal-good f g c r)) ∙ ap (λ (l : List ℕ). accepted (claim-kind l) (length c)) (r .bytes)
+      answer-is (both-good f g ok) (ap (λ (f : Fault). f .code) (refusal-good f g c r)) ∙ ap (λ (l : List ℕ). accepted (kind-of (getD l 0 0)) (length c)) (r .bytes)
 
   -- and nothing else is: what acceptance says
   pub record Acceptance : Type 0 where

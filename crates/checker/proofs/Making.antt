@@ -4,12 +4,15 @@ use Prim.Native.Nat.{ℕ, _+_, _≤_, _<_}
 use mathlib.Core.Path.{_≡_, refl, sym, ap, _∙_, subst, subst₂}
 use mathlib.Core.Bool.{Bool, true, false, cond, _&&_}
 use mathlib.Core.List.{List, [], _∷_, _++_, append-nil}
+use borrow.Author.Tests.{eq-eqb, ne-eqb}
 use native.Mathlib.Numerals.{add-one}
-use native.Mathlib.Omega.{arith}
+use lib.Dec.{eqb}
 use lib.ListN.{getD, length, drop, drop-of-length-le}
 use lib.Seq.{drop-cons}
 use Rattle.bits.proofs.Tests.{both, both-left, both-right}
+use Rattle.answers.specs.declared.Fault.{Fault}
 use Rattle.answers.specs.Answers.{fault, sound}
+use Rattle.answers.proofs.Faults.{chosen}
 use Rattle.rules.specs.Rules.{_adding_, follows}
 use Rattle.rules.proofs.Completions.{adding-append}
 use Rattle.wirings.specs.Wirings.{is-choice, free-choice, straight}
@@ -17,7 +20,20 @@ use Rattle.wirings.proofs.Choices.{listed}
 use Rattle.partial.specs.declared.Wiring.{Wiring}
 use Rattle.partial.specs.Partial.{StandsFor, prefix, may-place}
 use Rattle.partial.proofs.Standing.{stands-n, stands-prefix}
-use Rattle.checker.specs.Checking.{choices-fault, choices-made, Wires}
+use Rattle.checker.specs.Checking.{choice-code, choices-fault, choices-made, Wires}
+
+-- the code of a choice is 0 just where it is one and its input is free
+code-is : (n : ℕ) (w : List ℕ) (b : ℕ) → eqb (choice-code n w b) 0 ≡ is-choice n b && free-choice w b
+unfolding choice-code
+code-is n w b = go (is-choice n b) (free-choice w b)
+  where
+    go : (c t : Bool) → eqb (cond c (cond t 0 13) 12) 0 ≡ c && t
+    go true true = refl
+    go true false = refl
+    go false t = refl
+
+code-may : (n : ℕ) (w : List ℕ) (b : ℕ) → choice-code n w b ≡ 0 → is-choice n b && free-choice w b ≡ true
+code-may n w b z = sym (code-is n w b) ∙ eq-eqb _ 0 z
 
 module _ (n : ℕ) (s : List ℕ) (from : ℕ) where
   pub record Making (at : ℕ) (r : Wiring) : Type 0 where
@@ -42,44 +58,40 @@ module _ (n : ℕ) (s : List ℕ) (from : ℕ) where
     w = prefix r
 
     -- the next choice, and those after it
-    next-fault : at < length s → choices-fault n [] (drop from s) from ≡ cond (is-choice n b) (cond (free-choice w b) (choices-fault n (w adding b) (drop (at + 1) s) (at + 1)) (fault 13 at)) (fault 12 at)
+    next-fault : at < length s → choices-fault n [] (drop from s) from ≡ cond (eqb (choice-code n w b) 0) (choices-fault n (w adding b) (drop (at + 1) s) (at + 1)) (fault (choice-code n w b) at)
     unfolding choices-fault
     next-fault h = k .faults ∙ ap (λ (l : List ℕ). choices-fault n w l at) (drop-cons s at 0 h) ∙ rw add-one refl
 
-    next-made : at < length s → choices-made n [] (drop from s) ≡ cond (is-choice n b && free-choice w b) (choices-made n (w adding b) (drop (at + 1) s)) w
+    next-made : at < length s → choices-made n [] (drop from s) ≡ cond (eqb (choice-code n w b) 0) (choices-made n (w adding b) (drop (at + 1) s)) w
     unfolding choices-made
     next-made h = k .made ∙ ap (choices-made n w) (drop-cons s at 0 h) ∙ rw add-one refl
 
-    -- what the wiring's test says of the byte
-    tested : may-place r b ≡ is-choice n b && free-choice w b
-    tested = ap (λ (m : ℕ). is-choice m b && free-choice w b) (stands-n r n w (k .stands))
+    module _ (h : at < length s) (code : ℕ) (is : code ≡ choice-code (r .n) w b) where
+      here : code ≡ choice-code n w b
+      here = is ∙ ap (λ (m : ℕ). choice-code m w b) (stands-n r n w (k .stands))
 
-    -- a byte that is no choice ends it, and so does one whose input is used
-    pub no-choice : at < length s → is-choice n b ≡ false → Wires n (drop from s) from (record { fault = fault 12 at; wiring = r })
-    no-choice h e = record {
-      fault = sym (next-fault h ∙ simp e);
-      wiring = subst (StandsFor r n) (sym (next-made h ∙ simp e)) (k .stands);
-    }
+      -- a choice with a code ends it
+      pub making-stops : (code ≡ 0 → ⊥) → Wires n (drop from s) from (record { fault = fault code at; wiring = r })
+      making-stops bad =
+          let no-more = ne-eqb (choice-code n w b) 0 (λ z. bad (here ∙ z)) in
+          record {
+            fault = ap (λ (c : ℕ). fault c at) here ∙ sym (next-fault h ∙ simp no-more);
+            wiring = subst (StandsFor r n) (sym (next-made h ∙ simp no-more)) (k .stands);
+          }
 
-    pub used-twice : at < length s → is-choice n b ≡ true → may-place r b ≡ false → Wires n (drop from s) from (record { fault = fault 13 at; wiring = r })
-    used-twice h e refused =
-        let used : free-choice w b ≡ false = ap (λ (t : Bool). t && free-choice w b) (sym e) ∙ sym tested ∙ refused in
-        record {
-          fault = sym (next-fault h ∙ simp (e, used));
-          wiring = subst (StandsFor r n) (sym (next-made h ∙ simp (e, used))) (k .stands);
-        }
+      -- one without may be placed, and then it goes on
+      pub may-go-on : code ≡ 0 → may-place r b ≡ true
+      may-go-on z = code-may (r .n) w b (sym is ∙ z)
 
-    pub making-goes : at < length s → may-place r b ≡ true → (r′ : Wiring) → StandsFor r′ (r .n) (w adding b) → Making (at + 1) r′
-    making-goes h may r′ placed =
-        let both = sym tested ∙ may in
-        let choice = both-left (is-choice n b) (free-choice w b) both in
-        let free = both-right (is-choice n b) (free-choice w b) both in
-        let there = sym (stands-prefix r′ (r .n) (w adding b) placed) in
-        record {
-          stands = subst₂ (StandsFor r′) (stands-n r n w (k .stands)) there placed;
-          faults = next-fault h ∙ simp (choice, free) (ap (λ (v : List ℕ). choices-fault n v (drop (at + 1) s) (at + 1)) there);
-          made = next-made h ∙ simp (choice, free) (ap (λ (v : List ℕ). choices-made n v (drop (at + 1) s)) there);
-        }
+      pub making-goes : code ≡ 0 → (r′ : Wiring) → StandsFor r′ (r .n) (w adding b) → Making (at + 1) r′
+      making-goes z r′ placed =
+          let on = eq-eqb (choice-code n w b) 0 (sym here ∙ z) in
+          let there = sym (stands-prefix r′ (r .n) (w adding b) placed) in
+          record {
+            stands = subst₂ (StandsFor r′) (stands-n r n w (k .stands)) there placed;
+            faults = next-fault h ∙ simp on (ap (λ (v : List ℕ). choices-fault n v (drop (at + 1) s) (at + 1)) there);
+            made = next-made h ∙ simp on (ap (λ (v : List ℕ). choices-made n v (drop (at + 1) s)) there);
+          }
 
     pub all-made : length s ≤ at → Wires n (drop from s) from (record { fault = sound; wiring = r })
     unfolding choices-fault choices-made
@@ -90,40 +102,32 @@ module _ (n : ℕ) (s : List ℕ) (from : ℕ) where
 
 -- ---- choices without fault
 
+-- they may follow w, one after the other, and all of them are made
 module _ (n : ℕ) where
-  -- a first choice, as the reading tests it
-  follows-step : (w : List ℕ) (b : ℕ) (rest : List ℕ) → follows (straight n) w (b ∷ rest) ≡ is-choice n b && free-choice w b && follows (straight n) (w adding b) rest
+  -- the code is 0 just where the rule lets the choice follow
+  follows-step : (w : List ℕ) (b : ℕ) (rest : List ℕ) → follows (straight n) w (b ∷ rest) ≡ eqb (choice-code n w b) 0 && follows (straight n) (w adding b) rest
   unfolding follows
-  follows-step w b rest = ap (λ (t : Bool). t && free-choice w b && follows (straight n) (w adding b) rest) (listed n b)
+  follows-step w b rest =
+      ap (λ (t : Bool). t && follows (straight n) (w adding b) rest) (ap (λ (t : Bool). t && free-choice w b) (listed n b) ∙ sym (code-is n w b))
 
-  -- choices have no fault exactly where they may follow one another
   pub choices-sound : (w rest : List ℕ) (at : ℕ) → choices-fault n w rest at .code ≡ 0 → follows (straight n) w rest ≡ true
   unfolding choices-fault follows
   choices-sound w [] at e = refl
-  choices-sound w (b ∷ rest) at e = follows-step w b rest ∙ go (is-choice n b) (free-choice w b) (choices-sound (w adding b) rest (at + 1)) e
-    where
-      go : (choice free : Bool) → (choices-fault n (w adding b) rest (at + 1) .code ≡ 0 → follows (straight n) (w adding b) rest ≡ true)
-          → cond choice (cond free (choices-fault n (w adding b) rest (at + 1)) (fault 13 at)) (fault 12 at) .code ≡ 0
-          → choice && free && follows (straight n) (w adding b) rest ≡ true
-      go true true later h = later h
-      go true false later h = absurd (omega (arith, h))
-      go false free later h = absurd (omega (arith, h))
-
-  -- the next choice may be made, and those after it may follow
-  next-follows : (w : List ℕ) (b : ℕ) (rest : List ℕ) → follows (straight n) w (b ∷ rest) ≡ true
-      → (is-choice n b ≡ true) × (free-choice w b ≡ true) × (follows (straight n) (w adding b) rest ≡ true)
-  next-follows w b rest e =
-      let parts = sym (follows-step w b rest) ∙ e in
-      let first = both-left (is-choice n b && free-choice w b) _ parts in
-      (both-left (is-choice n b) _ first, both-right (is-choice n b) _ first, both-right (is-choice n b && free-choice w b) _ parts)
+  choices-sound w (b ∷ rest) at e =
+      let x = chosen (λ (f : Fault). f .code) (choice-code n w b) (choices-fault n (w adding b) rest (at + 1)) (fault (choice-code n w b) at) refl e in
+      follows-step w b rest ∙ both (eq-eqb _ 0 (x .0)) (choices-sound (w adding b) rest (at + 1) (x .1))
 
   pub choices-good : (w rest : List ℕ) (at : ℕ) → follows (straight n) w rest ≡ true → choices-fault n w rest at ≡ sound
   unfolding choices-fault
   choices-good w [] at e = refl
-  choices-good w (b ∷ rest) at e = let x = next-follows w b rest e in simp (x .0, x .1) (choices-good (w adding b) rest (at + 1) (x .2))
+  choices-good w (b ∷ rest) at e =
+      let parts = sym (follows-step w b rest) ∙ e in
+      simp (both-left (eqb (choice-code n w b) 0) _ parts) (choices-good (w adding b) rest (at + 1) (both-right (eqb (choice-code n w b) 0) _ parts))
 
-  -- and then all of them are made
   pub choices-all : (w rest : List ℕ) → follows (straight n) w rest ≡ true → choices-made n w rest ≡ w ++ rest
   unfolding choices-made
   choices-all w [] e = sym (append-nil w)
-  choices-all w (b ∷ rest) e = let x = next-follows w b rest e in simp (x .0, x .1) (choices-all (w adding b) rest (x .2) ∙ adding-append w b rest)
+  choices-all w (b ∷ rest) e =
+      let parts = sym (follows-step w b rest) ∙ e in
+      simp (both-left (eqb (choice-code n w b) 0) _ parts)
+      (choices-all (w adding b) rest (both-right (eqb (choice-code n w b) 0) _ parts) ∙ adding-append w b rest)

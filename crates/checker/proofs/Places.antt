@@ -16,14 +16,14 @@ use Rattle.rules.specs.Rules.{_adding_}
 use Rattle.records.specs.Records.{inputs, record-fault, both-read}
 use Rattle.records.proofs.Frame.{record-sound, both-fine}
 use Rattle.records.proofs.Places.{both-place}
-use Rattle.wirings.specs.Wirings.{straight, is-choice, free-choice, agrees}
+use Rattle.wirings.specs.Wirings.{straight, agrees}
 use Rattle.claims.specs.Trees.{longest-tree}
 use Rattle.claims.specs.Claims.{longest-refusal}
 use Rattle.claims.specs.Reading.{_onward_}
 use Rattle.claims.proofs.Reading.{onward-place, tree-place}
 use Rattle.claims.proofs.Trees.{longest-grows}
 use Rattle.claims.proofs.Refusals.{two-each, reached-start, match-length, refusal-length, longest-most}
-use Rattle.checker.specs.Checking.{header-fault, choices-fault, match-fault, index-fault, closing-fault, tree-fault, refusal-fault, claim-fault, checking}
+use Rattle.checker.specs.Checking.{header-fault, choice-code, choices-fault, match-fault, index-fault, closing-fault, tree-fault, refusal-fault, claim-fault, checking}
 use Rattle.checker.proofs.Closings.{named-dead}
 use Rattle.checker.proofs.Exact.{claim-sound}
 
@@ -41,8 +41,7 @@ choices-place : (n : ℕ) (w rest : List ℕ) (at : ℕ) → By (at + length res
 unfolding choices-fault
 choices-place n w [] at = zero-le
 choices-place n w (b ∷ rest) at =
-    let By-end = By (at + length (b ∷ rest)) in
-    cond-cases By-end (is-choice n b) _ _ (cond-cases By-end (free-choice w b) _ _ (omega (arith, choices-place n (w adding b) rest (at + 1))) (omega arith)) (omega arith)
+    cond-cases (By (at + length (b ∷ rest))) (eqb (choice-code n w b) 0) _ _ (omega (arith, choices-place n (w adding b) rest (at + 1))) (omega arith)
 
 index-place : (c : List ℕ) (k number : ℕ) → By k (index-fault c k number)
 unfolding index-fault

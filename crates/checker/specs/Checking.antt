@@ -1,7 +1,7 @@
 -- What the checker answers: the bytes of a claim read in the order of document 01, and the first fault is the answer.
 use Prim.Native.Nat.{ℕ, _+_, _-_}
 use mathlib.Core.Path.{_≡_}
-use mathlib.Core.Bool.{cond, _&&_}
+use mathlib.Core.Bool.{cond}
 use mathlib.Core.List.{List, [], _∷_}
 use lib.Dec.{ltb, eqb}
 use lib.ListN.{length, getD, drop}
@@ -22,16 +22,18 @@ header-fault c mark n = byte-fault c 1 mark mark 2 then byte-fault c 2 n n 10
 
 -- ---- a match claim
 
--- the choices of a wiring one by one, after the choices w: 12 a byte that is no choice, 13 an input of g used twice
+-- the code for a choice after the choices w: 12 where the byte is no choice, 13 where its input of g is used, else 0
+unfoldable pub choice-code : ℕ → List ℕ → ℕ → ℕ
+choice-code n w b = cond (is-choice n b) (cond (free-choice w b) 0 13) 12
+
+-- choices one by one after w: the first whose code is not 0, and the choices made before it
 unfoldable pub choices-fault : ℕ → List ℕ → List ℕ → ℕ → Fault
 choices-fault n w [] at = sound
-choices-fault n w (b ∷ rest) at =
-    cond (is-choice n b) (cond (free-choice w b) (choices-fault n (w adding b) rest (at + 1)) (fault 13 at)) (fault 12 at)
+choices-fault n w (b ∷ rest) at = cond (eqb (choice-code n w b) 0) (choices-fault n (w adding b) rest (at + 1)) (fault (choice-code n w b) at)
 
--- the choices made up to the first that may not be made
 unfoldable pub choices-made : ℕ → List ℕ → List ℕ → List ℕ
 choices-made n w [] = w
-choices-made n w (b ∷ rest) = cond (is-choice n b && free-choice w b) (choices-made n (w adding b) rest) w
+choices-made n w (b ∷ rest) = cond (eqb (choice-code n w b) 0) (choices-made n (w adding b) rest) w
 
 -- choices that are read from place `at` on: the first fault, and the wiring that has those before it
 pub record Wires (n : ℕ) (bytes : List ℕ) (at : ℕ) (r : Wired) : Type 0 where
@@ -86,9 +88,10 @@ claim-fault f g c =
     (cond (eqb (getD c 0 0) 0x52) (refusal-fault f g c)
     (fault 2 0)))
 
-abbrev pub claim-kind : List ℕ → ℕ
-claim-kind c = cond (eqb (getD c 0 0) 0x4D) 1 2
+-- which is 1 for a match, 2 for a refusal
+unfoldable pub kind-of : ℕ → ℕ
+kind-of mark = cond (eqb mark 0x4D) 1 2
 
 -- both functions, then the claim as record 3
 unfoldable pub checking : List ℕ → List ℕ → List ℕ → Answer
-checking f g c = both-read f g or-else by 3 (claim-fault f g c) (accepted (claim-kind c) (length c))
+checking f g c = both-read f g or-else by 3 (claim-fault f g c) (accepted (kind-of (getD c 0 0)) (length c))

@@ -3,11 +3,10 @@
 ghost use mathlib.Core.Path.{_≡_};
 ghost use Prim.Native.Nat.{_≤_, _<_};
 ghost use lib.ListN.{length, drop};
-ghost use Rattle.records.specs.Records.{record-end};
+ghost use Rattle.records.specs.Records.{record-end, Accepted};
 ghost use Rattle.wirings.specs.Pairs.{cubes-in, pair-test, dead};
-ghost use Rattle.wirings.proofs.Agreement.{Accepted};
 ghost use Rattle.partial.specs.Partial.{prefix, Formed};
-ghost use Rattle.checker.specs.Checking.{header-fault, Wires, match-fault, index-fault, closing-fault, tree-fault, refusal-fault, claim-fault, checking};
+ghost use Rattle.checker.specs.Checking.{header-fault, choice-code, Wires, match-fault, index-fault, closing-fault, tree-fault, refusal-fault, claim-fault, kind-of, checking};
 use answers::Answer;
 use answers::Fault;
 use partial::Wiring;
@@ -32,6 +31,20 @@ fn header_fault(claim: &[u8], mark: u8, n: u8) -> Fault
     )
 }
 
+// The code for the next choice: 12 where the byte is no choice, 13 where its input of g is used, else 0.
+fn choice_code(wiring: Wiring, choice: u8) -> u8
+    requires { ⌜ Formed wiring ⌝ }
+    ensures { λ r. ⌜ r ≡ choice-code (wiring .n) (prefix wiring) choice ⌝ }
+{
+    if !partial::is_choice(wiring.n, choice) {
+        return 12;
+    }
+    if !wiring.free(choice) {
+        return 13;
+    }
+    0
+}
+
 // Reads the choices of n inputs from `from` to the end of the bytes, and makes them one by one.
 pub fn wire(n: u8, bytes: &[u8], from: usize) -> Wired
     requires { ⌜ n ≤ 8 ⌝ }
@@ -42,21 +55,10 @@ pub fn wire(n: u8, bytes: &[u8], from: usize) -> Wired
     let mut at = from;
     while at < bytes.len() {
         let choice = bytes[at];
-        if !partial::is_choice(n, choice) {
+        let code = choice_code(wiring, choice);
+        if code != 0 {
             return Wired {
-                fault: Fault {
-                    code: 12,
-                    place: at,
-                },
-                wiring,
-            };
-        }
-        if !wiring.free(choice) {
-            return Wired {
-                fault: Fault {
-                    code: 13,
-                    place: at,
-                },
+                fault: Fault { code, place: at },
                 wiring,
             };
         }
@@ -237,6 +239,16 @@ fn claim_fault(f: &[u8], g: &[u8], claim: &[u8]) -> Fault
     Fault { code: 2, place: 0 }
 }
 
+// The kind of a claim, by the first byte of its mark: 1 for a match, 2 for a refusal.
+fn kind(mark: u8) -> u8
+    ensures { λ r. ⌜ r ≡ kind-of mark ⌝ }
+{
+    if mark == 0x4D {
+        return 1;
+    }
+    2
+}
+
 // Checks a claim on two functions: kind 1 where a match is accepted, 2 where a refusal is.
 pub fn check(f: &[u8], g: &[u8], claim: &[u8]) -> Answer
     ensures { λ r. ⌜ r ≡ checking (now (f .entry)) (now (g .entry)) (now (claim .entry)) ⌝ }
@@ -249,8 +261,5 @@ pub fn check(f: &[u8], g: &[u8], claim: &[u8]) -> Answer
     if fault.code != 0 {
         return answers::refused(fault.code, 3, fault.place);
     }
-    if claim[0] == 0x4D {
-        return answers::accepted(1, claim.len());
-    }
-    answers::accepted(2, claim.len())
+    answers::accepted(kind(claim[0]), claim.len())
 }

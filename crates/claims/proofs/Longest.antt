@@ -21,12 +21,10 @@ use Rattle.rules.specs.Rules.{_adding_, next}
 use Rattle.rules.proofs.Lists.{In, each-at, run-in}
 use Rattle.rules.proofs.Cut.{Reached, reached-next}
 use Rattle.answers.specs.Answers.{is-sound, _then_, byte-fault, length-fault}
-use Rattle.records.specs.Records.{inputs, on-list, off-list, cube-code, clash-code, first-fault, header-bytes, header-fault, record-fault}
-use Rattle.records.proofs.Cubes.{Bytes}
+use Rattle.records.specs.Records.{inputs, on-list, off-list, cube-code, clash-code, first-fault, header-bytes, header-fault, record-fault, Bytes, Accepted}
 use Rattle.wirings.specs.Wirings.{input-of, inverted, straight}
 use Rattle.wirings.specs.Pairs.{Pair, opposed, separates, unplaced, dead, side, against}
 use Rattle.wirings.proofs.Choices.{free-number}
-use Rattle.wirings.proofs.Agreement.{Accepted}
 use Rattle.claims.specs.Trees.{Tree, Trees, closing, split, end, _and_, tree-bytes, trees-bytes, right-each, right, longest-tree}
 use Rattle.claims.specs.Claims.{IsRefusal, names-pair, closes, refusal-claim, longest-refusal}
 use Rattle.claims.proofs.Refusals.{reached-start}

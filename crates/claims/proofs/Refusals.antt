@@ -14,12 +14,12 @@ use Rattle.bits.proofs.Tests.{both, both-left, both-right}
 use Rattle.rules.specs.Rules.{completions, follows}
 use Rattle.rules.proofs.Lists.{In, flat-in, map-in, some-if}
 use Rattle.rules.proofs.Cut.{Reached}
-use Rattle.records.specs.Records.{inputs}
+use Rattle.records.specs.Records.{inputs, Accepted}
 use Rattle.wirings.specs.Wirings.{straight, is-wiring, wirings, agrees, agreeing}
 use Rattle.wirings.specs.Pairs.{Pair, cubes-in, side, pairs, of-pair, dead}
 use Rattle.wirings.proofs.Choices.{free-number}
 use Rattle.wirings.proofs.Wirings.{wiring-in, wiring-parts}
-use Rattle.wirings.proofs.Agreement.{Accepted, few-inputs}
+use Rattle.records.proofs.Frame.{few-inputs}
 use Rattle.wirings.proofs.Death.{in-pair, pair-in, some-dead, never-agrees}
 use Rattle.claims.specs.Trees.{Tree, tree-bytes, longest-tree}
 use Rattle.claims.specs.Claims.{IsMatch, IsRefusal, match-claim, names-pair, closes, right-for, longest-refusal}

@@ -4,21 +4,20 @@ use Prim.Native.Nat.{ℕ, _≤_}
 use mathlib.Core.Path.{_≡_, sym, ap, ap₂, _∙_, subst}
 use mathlib.Core.Bool.{true, false}
 use mathlib.Core.List.{List}
+use mathlib.Core.Logic.{_⊎_}
 use contract.Lifetimes.{Lfts}
 use borrow.Fn.Kinds.{Dens, resT, endedOf}
 use denote.Triple.Clauses.{AtExit}
 use lib.ListN.{length}
 use Rattle.answers.specs.declared.Answer.{Answer}
 use Rattle.answers.specs.Answers.{accepted}
-use Rattle.records.specs.Records.{inputs}
-use Rattle.records.proofs.Cubes.{Bytes}
+use Rattle.records.specs.Records.{inputs, Bytes, Accepted}
 use Rattle.wirings.specs.Wirings.{is-wiring, agreeing}
 use Rattle.wirings.proofs.Wirings.{wiring-in}
-use Rattle.wirings.proofs.Agreement.{Accepted}
 use Rattle.claims.specs.Claims.{match-claim, IsMatch, IsRefusal}
 use Rattle.claims.proofs.Refusals.{refusal-none, not-both}
 use Rattle.checker.specs.Checking.{checking}
-use Rattle.checker.proofs.Exact.{match-accepted, refusal-accepted, accepted-match, accepted-refusal}
+use Rattle.checker.proofs.Exact.{match-accepted, refusal-accepted, accepted-kind, accepted-match, accepted-refusal}
 use Rattle.checker.proofs.Places.{checking-place}
 use Rattle.checker.proofs.check.Kinds as check-kinds
 use Rattle.checker.proofs.check.Reads as check
@@ -42,18 +41,23 @@ module _ (κs : Lfts 3) (a : Dens κs check-kinds.ps) (r : resT check-kinds.r κ
   pub rules-accepted : Accepted f g → IsRefusal f g c → r ≡ accepted 2 (length c)
   rules-accepted ok t = p ∙ refusal-accepted f g c ok t
 
-  module _ (bytes-f : Bytes f) (bytes-g : Bytes g) (e : r .code ≡ 0) where
+  module _ (e : r .code ≡ 0) where
     is-accepted : checking f g c .code ≡ 0
     is-accepted = ap (λ (x : Answer). x .code) (sym p) ∙ e
 
+    -- what is accepted is a match or a refusal
+    pub match-or-refusal : (r .kind ≡ 1) ⊎ (r .kind ≡ 2)
+    match-or-refusal = subst (λ (x : Answer). (x .kind ≡ 1) ⊎ (x .kind ≡ 2)) (sym p) (accepted-kind f g c is-accepted)
+
+  module _ (bytes-f : Bytes f) (bytes-g : Bytes g) (e : r .code ≡ 0) where
     -- what is accepted as a match: two accepted functions, and a wiring under which they agree on every pattern that both specify,
     -- output phase included
     pub match-agrees : r .kind ≡ 1 → Accepted f g × IsMatch f g c
-    match-agrees k = accepted-match f g c bytes-f bytes-g is-accepted (ap (λ (x : Answer). x .kind) (sym p) ∙ k)
+    match-agrees k = accepted-match f g c bytes-f bytes-g (is-accepted e) (ap (λ (x : Answer). x .kind) (sym p) ∙ k)
 
     -- what is accepted as a refusal is written by the rules
     pub refusal-by-rules : r .kind ≡ 2 → Accepted f g × IsRefusal f g c
-    refusal-by-rules k = accepted-refusal f g c bytes-f bytes-g is-accepted (ap (λ (x : Answer). x .kind) (sym p) ∙ k)
+    refusal-by-rules k = accepted-refusal f g c bytes-f bytes-g (is-accepted e) (ap (λ (x : Answer). x .kind) (sym p) ∙ k)
 
     -- and then no wiring agrees
     pub refusal-means-none : r .kind ≡ 2 → (v : List ℕ) → is-wiring (inputs g) v ≡ true → agreeing f g v ≡ false

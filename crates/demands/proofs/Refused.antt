@@ -17,7 +17,7 @@ use Rattle.writer.specs.Writing.{record-bytes, few, sizes, cubes, fits, writing
 use Rattle.wirings.specs.Wirings.{choices-from, served, read-at, disagree-at, agrees}
 use Rattle.wirings.specs.Pairs.{separates, dead, side, against}
 use Rattle.claims.specs.Reading.{_onward_, in-turn, read-tree}
-use Rattle.checker.specs.Checking.{header-fault as claim-header, choices-fault, match-fault, index-fault, closing-fault, tree-fault, refusal-fault, claim-fault, checking}
+use Rattle.checker.specs.Checking.{header-fault as claim-header, choice-code, choices-fault, match-fault, index-fault, closing-fault, tree-fault, refusal-fault, claim-fault, kind-of, checking}
 use Rattle.demands.proofs.Table.{Conj, Disj, Odd, Const, Wire, Conj-Disj, Const-Wire, one-input, Row, check-of, AllRight}
 use Rattle.checker.proofs.check.Kinds as check-kinds
 use Rattle.checker.proofs.check.Reads as check
@@ -86,7 +86,7 @@ wrong-checkers =
     ∷ []
 
 pub wrong-checkers-ruled-out : AllRight wrong-checkers
-unfolding bit number every any count cube-holds cubes-share some-cube _then_ by _or-else_ byte-fault length-fault filter some-in on-list off-list cube-code clash-code first-fault header-bytes header-fault record-fault both-read choices-from served read-at disagree-at agrees separates dead side against _onward_ in-turn read-tree claim-header choices-fault match-fault index-fault closing-fault tree-fault refusal-fault claim-fault checking
+unfolding bit number every any count cube-holds cubes-share some-cube _then_ by _or-else_ byte-fault length-fault filter some-in on-list off-list cube-code clash-code first-fault header-bytes header-fault record-fault both-read choices-from served read-at disagree-at agrees separates dead side against _onward_ in-turn read-tree claim-header choice-code choices-fault match-fault index-fault closing-fault tree-fault refusal-fault claim-fault kind-of checking
 wrong-checkers-ruled-out = (refl, (refl, (refl, (refl, (refl, (refl, (refl, (refl, (refl, (refl, tt))))))))))
 
 -- ---- the bytes at fault

@@ -12,7 +12,7 @@ use Rattle.records.specs.Records.{on-list, off-list, cube-code, clash-code, fir
 use Rattle.wirings.specs.Wirings.{choices-from, served, read-at, disagree-at, agrees}
 use Rattle.wirings.specs.Pairs.{separates, dead, side, against}
 use Rattle.claims.specs.Reading.{_onward_, in-turn, read-tree}
-use Rattle.checker.specs.Checking.{header-fault as claim-header, choices-fault, match-fault, index-fault, closing-fault, tree-fault, refusal-fault, claim-fault, checking}
+use Rattle.checker.specs.Checking.{header-fault as claim-header, choice-code, choices-fault, match-fault, index-fault, closing-fault, tree-fault, refusal-fault, claim-fault, kind-of, checking}
 
 -- ---- the functions of "Small functions to try"
 
@@ -85,5 +85,5 @@ starred =
     ∷ []
 
 pub starred-right : AllRight starred
-unfolding bit number every any count cube-holds cubes-share some-cube patterns-held inputs-used _then_ by _or-else_ byte-fault length-fault filter some-in on-list off-list cube-code clash-code first-fault header-bytes header-fault record-fault both-read summing choices-from served read-at disagree-at agrees separates dead side against _onward_ in-turn read-tree claim-header choices-fault match-fault index-fault closing-fault tree-fault refusal-fault claim-fault checking
+unfolding bit number every any count cube-holds cubes-share some-cube patterns-held inputs-used _then_ by _or-else_ byte-fault length-fault filter some-in on-list off-list cube-code clash-code first-fault header-bytes header-fault record-fault both-read summing choices-from served read-at disagree-at agrees separates dead side against _onward_ in-turn read-tree claim-header choice-code choices-fault match-fault index-fault closing-fault tree-fault refusal-fault claim-fault kind-of checking
 starred-right = (refl, (refl, (refl, (refl, (refl, (refl, (refl, (refl, (refl, (refl, (refl, (refl, (refl, (refl, tt))))))))))))))

@@ -13,10 +13,9 @@ use lib.ListN.{length}
 use Rattle.rules.specs.Rules.{completions, follows}
 use Rattle.rules.proofs.Lists.{In, some-if}
 use Rattle.rules.proofs.Cut.{Reached}
-use Rattle.records.specs.Records.{inputs}
+use Rattle.records.specs.Records.{inputs, Accepted}
 use Rattle.wirings.specs.Wirings.{straight, agrees}
 use Rattle.wirings.specs.Pairs.{Pair, pairs, first-dead}
-use Rattle.wirings.proofs.Agreement.{Accepted}
 use Rattle.wirings.proofs.Death.{some-dead, first-dead-is, never-agrees}
 use Rattle.partial.specs.declared.Found.{Found}
 use Rattle.partial.specs.Partial.{prefix, Formed, found}

@@ -6,7 +6,7 @@ use native.Mathlib.Nat.{mul-assoc, mul-comm, div-one}
 use native.Mathlib.Omega.{arith}
 use lib.ListN.{length, getD}
 use lib.Pow.{pow-add, shr-shr}
-use Rattle.records.proofs.Cubes.{Bytes}
+use Rattle.records.specs.Records.{Bytes}
 use Rattle.partial.specs.Partial.{as-number, as-bytes}
 use Rattle.rules.specs.Rules.{_adding_}
 

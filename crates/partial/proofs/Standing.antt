@@ -18,7 +18,7 @@ use Rattle.bits.proofs.Bit.{bit-le, one-shifted}
 use Rattle.bits.proofs.Mask.{mask-at, mask-same, mask-drop, mask-all}
 use Rattle.rules.specs.Lists.{some-in}
 use Rattle.rules.specs.Rules.{follows, _adding_}
-use Rattle.records.proofs.Cubes.{Bytes}
+use Rattle.records.specs.Records.{Bytes}
 use Rattle.wirings.specs.Wirings.{input-of, inverted, straight, is-choice, uses, free-choice}
 use Rattle.wirings.specs.Pairs.{unplaced, unused}
 use Rattle.wirings.proofs.Choices.{choice-input, choice-byte, choice-below, plain-choice, place-next, free-count, uses-adding, placed-choice, placed-input}

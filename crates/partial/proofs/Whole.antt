@@ -9,10 +9,9 @@ use Rattle.bits.proofs.Tests.{decide, not-passed}
 use Rattle.rules.specs.Rules.{completions}
 use Rattle.rules.proofs.Lists.{In, some-if}
 use Rattle.rules.proofs.Cut.{Reached}
-use Rattle.records.specs.Records.{inputs}
+use Rattle.records.specs.Records.{inputs, Accepted}
 use Rattle.wirings.specs.Wirings.{straight, agrees}
 use Rattle.wirings.specs.Pairs.{Pair, pairs, first-dead}
-use Rattle.wirings.proofs.Agreement.{Accepted}
 use Rattle.wirings.proofs.Death.{some-dead, first-exists-dead, first-dead-is, never-agrees, whole-dead}
 use Rattle.partial.specs.Partial.{found}
 use Rattle.partial.proofs.Rows.{found-some}

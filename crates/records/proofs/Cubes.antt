@@ -14,7 +14,7 @@ use Rattle.cubes.proofs.Masks.{share-masks}
 use Rattle.cubes.proofs.Lists.{Each, each-map, each-bytes, each-take, each-drop, some-same, lists-meet}
 use Rattle.answers.specs.declared.Fault.{Fault}
 use Rattle.answers.specs.Answers.{fault, sound}
-use Rattle.records.specs.Records.{inputs, on-count, off-count, cubes-at, off-at, on-list, off-list, cube-code, clash-code, first-fault, cubes-fault, clash-fault}
+use Rattle.records.specs.Records.{Bytes, inputs, on-count, off-count, cubes-at, off-at, on-list, off-list, cube-code, clash-code, first-fault, cubes-fault, clash-fault}
 use Rattle.records.proofs.Frame.{Framed}
 use Rattle.records.proofs.Codes.{Clean, code-clean}
 
@@ -80,10 +80,6 @@ module _ (Q : ℕ → ℕ → Type 0) (s : List ℕ) (each : Each Q (drop (cubes
       (subst (Each Q) (drop-drop (2 * on-count s) (cubes-at s) s) (each-drop Q (on-count s) (drop (cubes-at s) s) each))
 
 -- ---- the lists of a framed record whose cubes have no fault
-
--- the list's elements are bytes
-abbrev pub Bytes : List ℕ → Type 0
-Bytes l = (i : ℕ) → getD l i 0 < 2 ^ 8
 
 pub all-clean : (s : List ℕ) → Bytes s → cubes-fault s .code ≡ 0 → CleanList (inputs s) (drop (cubes-at s) s)
 all-clean s bytes e = clean-list (inputs s) (drop 5 s) 5 (λ i. subst (λ (b : ℕ). b < 2 ^ 8) (sym (getD-drop 5 s i 0)) (bytes (5 + i))) e

@@ -1,19 +1,19 @@
 -- What a sound header says of a record, and that a record of that form has a sound header.
-use Prim.Native.Nat.{ℕ}
+use Prim.Native.Nat.{ℕ, _≤_}
 use mathlib.Core.Path.{_≡_, refl, sym, ap, _∙_}
 use mathlib.Core.Bool.{Bool, true, false, cond}
 use mathlib.Core.List.{List}
-use borrow.Author.Tests.{eqb-true}
+use borrow.Author.Tests.{eqb-true, eq-eqb}
 use native.Mathlib.Omega.{arith}
 use lib.Dec.{eqb}
 use lib.ListN.{length}
 use Rattle.answers.specs.declared.Fault.{Fault}
 use Rattle.cubes.specs.Cubes.{patterns-held, inputs-used}
-use Rattle.answers.specs.Answers.{accepted, fine, refused, sound, _then_, length-fault}
+use Rattle.answers.specs.Answers.{accepted, fine, refused, sound, _then_, by, length-fault}
 use Rattle.answers.proofs.Faults.{Byte, byte-sound, byte-good, length-sound, length-good, then-both, then-next, then-stop, by-both, next-chosen, chosen}
 use Rattle.records.specs.declared.Reading.{Reading}
 use Rattle.records.specs.declared.Figures.{Figures}
-use Rattle.records.specs.Records.{inputs, on-count, off-count, record-end, on-list, off-list, with-counts, reading, with-figures, summing, header-bytes, header-fault, cubes-fault, clash-fault, record-fault, both-read}
+use Rattle.records.specs.Records.{inputs, on-count, off-count, record-end, on-list, off-list, with-counts, reading, with-figures, summing, header-bytes, header-fault, cubes-fault, clash-fault, record-fault, both-read, Bytes, Accepted}
 
 -- the header bytes are there, and each is in its range
 pub record Header (s : List ℕ) : Type 0 where
@@ -120,3 +120,19 @@ reading-code s e = chosen (λ (r : Reading). r .answer .code) (record-fault s .c
 pub summing-code : (s : List ℕ) → summing s .answer .code ≡ 0 → record-fault s .code ≡ 0
 unfolding summing
 summing-code s e = chosen (λ (r : Figures). r .answer .code) (record-fault s .code) _ _ refl e .0
+
+-- the reading of both accepts just two accepted records with as many inputs
+pub both-good : (f g : List ℕ) → Accepted f g → both-read f g .code ≡ 0
+unfolding both-read by
+both-good f g ok = simp (eq-eqb (record-fault f .code) 0 (ok .fine-f), eq-eqb (record-fault g .code) 0 (ok .fine-g), eq-eqb (inputs f) (inputs g) (ok .equal))
+
+pub both-sound : (f g : List ℕ) → Bytes f → Bytes g → both-read f g .code ≡ 0 → Accepted f g
+both-sound f g bytes-f bytes-g e = let x = both-fine f g e in record { bytes-f = bytes-f; bytes-g = bytes-g; fine-f = x .0; fine-g = x .1; equal = x .2 }
+
+-- both end where their headers say
+pub framed-both : (f g : List ℕ) → Accepted f g → Framed f × Framed g
+framed-both f g ok = (record-sound f (ok .fine-f) .framed, record-sound g (ok .fine-g) .framed)
+
+-- there are at most eight inputs
+pub few-inputs : (f g : List ℕ) → Accepted f g → inputs g ≤ 8
+few-inputs f g ok = record-sound g (ok .fine-g) .framed .header .n-byte .most

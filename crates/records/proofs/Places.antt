@@ -8,7 +8,7 @@ use native.Mathlib.Omega.{arith}
 use lib.Dec.{leb, eqb}
 use lib.ListN.{length, drop, length-take, length-drop}
 use Rattle.bits.specs.Bits.{has, any}
-use Rattle.cubes.specs.Cubes.{cube-names, cubes-share, some-cube}
+use Rattle.cubes.specs.Cubes.{cube-names}
 use Rattle.answers.specs.declared.Fault.{Fault}
 use Rattle.answers.specs.declared.Answer.{Answer}
 use Rattle.answers.specs.Answers.{fault, sound, fine, refused, by, byte-fault}
@@ -57,10 +57,6 @@ module _ (Q : ℕ → Type 0) (q₀ : Q 0) where
   pub cube-codes : (n P N : ℕ) → Q 5 → Q 6 → Q (cube-code n P N)
   unfolding cube-code
   cube-codes n P N q₅ q₆ = cond-cases Q (any 8 (λ i. leb n i && cube-names P N i)) 5 _ q₅ (cond-cases Q (any 8 (λ i. has P i && has N i)) 6 0 q₆ q₀)
-
-  pub clash-codes : (n : ℕ) (off : List ℕ) (P N : ℕ) → Q 7 → Q (clash-code n off P N)
-  unfolding clash-code
-  clash-codes n off P N q₇ = cond-cases Q (some-cube (cubes-share n P N) off) 7 0 q₇ q₀
 
 -- ---- places
 

@@ -1,5 +1,5 @@
 -- Function records, in the words and the order of document 01. A record is the list of its bytes.
-use Prim.Native.Nat.{ℕ, _+_, _*_}
+use Prim.Native.Nat.{ℕ, _+_, _*_, _^_, _<_}
 use mathlib.Core.Path.{_≡_}
 use mathlib.Core.Bool.{Bool, cond, _&&_}
 use mathlib.Core.List.{List, [], _∷_}
@@ -109,6 +109,17 @@ summing s =
 
 unfoldable pub both-read : List ℕ → List ℕ → Answer
 both-read f g = by 1 (record-fault f) (by 2 (record-fault g) (cond (eqb (inputs f) (inputs g)) fine (refused 9 2 2)))
+
+-- what that says of two records: both are accepted and have as many inputs. Their elements are bytes, as those of every slice are
+abbrev pub Bytes : List ℕ → Type 0
+Bytes s = (i : ℕ) → getD s i 0 < 2 ^ 8
+
+pub record Accepted (f g : List ℕ) : Type 0 where
+  pub bytes-f : Bytes f
+  pub bytes-g : Bytes g
+  pub fine-f : record-fault f .code ≡ 0
+  pub fine-g : record-fault g .code ≡ 0
+  pub equal : inputs f ≡ inputs g
 
 -- ---- the bytes at fault: the two bytes of a cube for codes 5, 6 and 7
 

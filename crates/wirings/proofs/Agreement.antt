@@ -24,10 +24,9 @@ use Rattle.cubes.proofs.Lists.{each-map, some-same, lists-meet}
 use Rattle.rules.specs.Lists.{each-in}
 use Rattle.rules.specs.Rules.{follows}
 use Rattle.rules.proofs.Lists.{some-if, each-some, getD-in}
-use Rattle.answers.specs.Answers.{by}
-use Rattle.records.specs.Records.{inputs, on-list, off-list, record-fault, both-read}
-use Rattle.records.proofs.Frame.{Framed, record-sound, both-fine}
-use Rattle.records.proofs.Cubes.{Bytes, CleanList, all-clean, on-each, off-each}
+use Rattle.records.specs.Records.{inputs, on-list, off-list, record-fault, Bytes, Accepted}
+use Rattle.records.proofs.Frame.{record-sound, few-inputs}
+use Rattle.records.proofs.Cubes.{CleanList, all-clean, on-each, off-each}
 use Rattle.wirings.specs.Wirings.{input-of, inverted, uses, straight, apart, served, read-at, disagree-at, agrees}
 use Rattle.wirings.specs.Pairs.{asks-one, asks-zero, separates, lands, carried-pos, carried-neg, side, against, pairs, of-pair}
 use Rattle.wirings.proofs.Choices.{placed-input, placed-apart}
@@ -256,30 +255,6 @@ module _ (n : ℕ) (small : n ≤ 8) (w : List ℕ) (allowed : follows (straight
         ∙ ap not (sym (any-bit 8 clashing (lt-of-le-of-lt (and-le-r (bitOr C P′) (bitOr D N′)) (or-lt 8 D N′ d d′))) ∙ clash-separates e e′)
 
 -- ---- accepted records
-
--- both records are accepted and have as many inputs
-pub record Accepted (f g : List ℕ) : Type 0 where
-  pub bytes-f : Bytes f
-  pub bytes-g : Bytes g
-  pub fine-f : record-fault f .code ≡ 0
-  pub fine-g : record-fault g .code ≡ 0
-  pub equal : inputs f ≡ inputs g
-
--- which is what the reading of both tells, given bytes
-pub both-good : (f g : List ℕ) → Accepted f g → both-read f g .code ≡ 0
-unfolding both-read by
-both-good f g ok = simp (eq-eqb (record-fault f .code) 0 (ok .fine-f), eq-eqb (record-fault g .code) 0 (ok .fine-g), eq-eqb (inputs f) (inputs g) (ok .equal))
-
-pub both-sound : (f g : List ℕ) → Bytes f → Bytes g → both-read f g .code ≡ 0 → Accepted f g
-both-sound f g bytes-f bytes-g e = let x = both-fine f g e in record { bytes-f = bytes-f; bytes-g = bytes-g; fine-f = x .0; fine-g = x .1; equal = x .2 }
-
--- both end where their headers say
-pub framed-both : (f g : List ℕ) → Accepted f g → Framed f × Framed g
-framed-both f g ok = (record-sound f (ok .fine-f) .framed, record-sound g (ok .fine-g) .framed)
-
--- and there are at most eight
-pub few-inputs : (f g : List ℕ) → Accepted f g → inputs g ≤ 8
-few-inputs f g ok = record-sound g (ok .fine-g) .framed .header .n-byte .most
 
 -- each cube of an accepted record is clean; above all, it is not empty
 clean-side : (s : ℕ) (f : List ℕ) → Bytes f → record-fault f .code ≡ 0 → CleanList (inputs f) (side s f)

@@ -16,13 +16,13 @@ use Rattle.rules.specs.Lists.{run, upto, some-in, each-in}
 use Rattle.rules.specs.Rules.{completions, follows}
 use Rattle.rules.proofs.Lists.{In, in-map, map-in, in-flat, flat-in, some-at, some-if, some-same, each-at, each-some, first-exists, first-found, in-run, run-in, AfterNone, first-after}
 use Rattle.rules.proofs.Cut.{Reached, Death, whole-reached}
-use Rattle.records.specs.Records.{inputs, on-count, off-count, cubes-at, off-at, on-list, off-list}
-use Rattle.records.proofs.Frame.{Framed}
+use Rattle.records.specs.Records.{inputs, on-count, off-count, cubes-at, off-at, on-list, off-list, Accepted}
+use Rattle.records.proofs.Frame.{Framed, few-inputs}
 use Rattle.wirings.specs.Wirings.{straight, wirings, phase, choices, agrees, agreeing}
 use Rattle.wirings.specs.Pairs.{separates, dead, cubes-in, side, against, Pair, cube-pairs, pairs, of-pair, first-dead}
 use Rattle.wirings.proofs.Dead.{dead-exactly, dead-whole}
 use Rattle.wirings.proofs.Indexed.{of-side}
-use Rattle.wirings.proofs.Agreement.{Accepted, few-inputs, agrees-separates}
+use Rattle.wirings.proofs.Agreement.{agrees-separates}
 
 -- ---- the pairs: s, u, v is one exactly when s is 0 or 1, f's list s has a cube u, and the list of g against it a cube v
 

@@ -4,16 +4,16 @@ use mathlib.Core.Path.{_≡_, refl, ap, sym, _∙_}
 use mathlib.Core.Bool.{Bool, true, false, cond}
 use mathlib.Core.List.{List}
 use borrow.Author.Needs.{needs}
-use borrow.Author.Tests.{leb-false, eq-eqb, ne-eqb}
+use borrow.Author.Tests.{leb-false}
 use native.Mathlib.Omega.{arith}
 use lib.Dec.{leb}
-use lib.ListN.{length}
+use lib.ListN.{length, getD}
 use Rattle.answers.specs.declared.Answer.{Answer}
 use Rattle.answers.specs.declared.Fault.{Fault}
 use Rattle.answers.specs.Answers.{accepted, fault, by}
 use Rattle.answers.proofs.Faults.{sound-as, by-next, by-stop, or-else-next, or-else-stop}
-use Rattle.wirings.proofs.Agreement.{both-sound}
-use Rattle.checker.specs.Checking.{claim-fault, claim-kind, checking}
+use Rattle.records.proofs.Frame.{both-sound}
+use Rattle.checker.specs.Checking.{claim-fault, kind-of, checking}
 use Rattle.checker.proofs.check.Statement.{statement}
 use Rattle.checker.proofs.check.Tie as tie
 
@@ -34,7 +34,7 @@ returns c =
 
 -- both functions are accepted, so the claim decides
 by-claim : (c : tie.Else1) (r : Answer) → let a = c .before .before .before .before .before .before .args in
-    r ≡ by 3 (claim-fault (a .f .now) (a .g .now) (a .claim .now)) (accepted (claim-kind (a .claim .now)) (length (a .claim .now)))
+    r ≡ by 3 (claim-fault (a .f .now) (a .g .now) (a .claim .now)) (accepted (kind-of (getD (a .claim .now) 0 0)) (length (a .claim .now)))
     → r ≡ checking (a .f .now) (a .g .now) (a .claim .now)
 unfolding checking
 by-claim c r e = e ∙ sym (or-else-next _ _ (ap (λ (a : Answer). a .code) (sym (c .before .before .both .ensures)) ∙ c .if1 .left))
@@ -46,23 +46,11 @@ returns-2 c =
 
 returns-3 : tie.Need-returns-3
 returns-3 c =
-    let t = c .before in
-    let e₂ = t .before .before in
+    let e₂ = c .before .before .before in
     let e₁ = e₂ .before .before .before in
     let len = length (e₁ .before .before .before .before .before .before .args .claim .now) in
     by-claim e₁ _
-    (by-next 3 _ _ _ _ (e₂ .before .before .claim-fault .ensures) (e₂ .if2 .left)
-    (c .accepted .ensures ∙ ap (λ (b : Bool). accepted (cond b 1 2) len) (sym (eq-eqb _ _ (t .if3 .taken)))))
-
-returns-4 : tie.Need-returns-4
-returns-4 c =
-    let t = c .before in
-    let e₂ = t .before .before in
-    let e₁ = e₂ .before .before .before in
-    let len = length (e₁ .before .before .before .before .before .before .args .claim .now) in
-    by-claim e₁ _
-    (by-next 3 _ _ _ _ (e₂ .before .before .claim-fault .ensures) (e₂ .if2 .left)
-    (c .accepted2 .ensures ∙ ap (λ (b : Bool). accepted (cond b 1 2) len) (sym (ne-eqb _ _ (t .if3 .left)))))
+    (by-next 3 _ _ _ _ (e₂ .before .before .claim-fault .ensures) (e₂ .if2 .left) (c .accepted .ensures ∙ ap (λ (k : ℕ). accepted k len) (c .before .kind .ensures)))
 
 pub check-spec : {M : Type 1} → statement M
 check-spec =
@@ -78,6 +66,5 @@ check-spec =
     returns-2
     (λ c. not-empty _ _ _ (sound-as (c .before .before .before .claim-fault .ensures) (c .before .if2 .left)))
     (λ c κs. search needs)
-    returns-3
     (λ c κs. search needs)
-    returns-4)
+    returns-3)

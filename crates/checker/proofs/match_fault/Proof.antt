@@ -13,7 +13,7 @@ use Rattle.rules.proofs.Cut.{Reached}
 use Rattle.records.specs.Records.{inputs}
 use Rattle.wirings.specs.Wirings.{straight, agrees}
 use Rattle.wirings.specs.Pairs.{first-dead}
-use Rattle.wirings.proofs.Agreement.{few-inputs, framed-both}
+use Rattle.records.proofs.Frame.{few-inputs, framed-both}
 use Rattle.partial.specs.declared.Found.{Found}
 use Rattle.partial.specs.Partial.{StandsFor, found}
 use Rattle.partial.proofs.Standing.{stands-n, stands-prefix, stands-formed}

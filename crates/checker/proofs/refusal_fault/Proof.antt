@@ -9,7 +9,7 @@ use Rattle.answers.specs.declared.Fault.{Fault}
 use Rattle.answers.specs.Answers.{length-fault}
 use Rattle.answers.proofs.Faults.{then-met, then-ends}
 use Rattle.records.specs.Records.{inputs}
-use Rattle.wirings.proofs.Agreement.{few-inputs, framed-both}
+use Rattle.records.proofs.Frame.{few-inputs, framed-both}
 use Rattle.partial.specs.declared.Wiring.{Wiring}
 use Rattle.partial.specs.Partial.{StandsFor, prefix}
 use Rattle.partial.proofs.Standing.{stands-n, stands-prefix}

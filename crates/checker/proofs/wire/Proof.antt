@@ -1,12 +1,10 @@
 -- The choices are made one by one; each way out says what remains.
 use Prim.Native.Nat.{_-_}
-use mathlib.Core.Path.{sym, _∙_}
 use borrow.Author.Needs.{needs}
-use borrow.Author.Tests.{not-true, not-false}
 use native.Mathlib.Omega.{arith}
 use lib.ListN.{length}
 use Rattle.partial.proofs.Standing.{stands-formed}
-use Rattle.checker.proofs.Making.{Making, making-starts, no-choice, used-twice, making-goes, all-made}
+use Rattle.checker.proofs.Making.{Making, making-starts, making-stops, may-go-on, making-goes, all-made}
 use Rattle.checker.proofs.wire.Statement.{statement}
 use Rattle.checker.proofs.wire.Tie as tie
 
@@ -19,20 +17,18 @@ abbrev μ-loop : tie.MeasureT-loop
 returns : tie.Need-returns Inv-loop μ-loop
 returns c =
     let test = c .before .before .before in
-    no-choice _ _ _ _ _ (test .before .loop .inv) (test .loop-test .taken) (sym (c .before .is-choice .ensures) ∙ not-true _ (c .if1 .taken))
+    making-stops _ _ _ _ _ (test .before .loop .inv) (test .loop-test .taken) _ (c .before .choice-code .ensures) (c .if1 .taken)
 
-returns-2 : tie.Need-returns-2 Inv-loop μ-loop
-returns-2 c =
-    let choice = c .before .before in
-    let test = choice .before .before .before in
-    used-twice _ _ _ _ _ (test .before .loop .inv) (test .loop-test .taken) (sym (choice .before .is-choice .ensures) ∙ not-false _ (choice .if1 .left))
-    (sym (c .before .free .ensures) ∙ not-true _ (c .if2 .taken))
+place-requires : tie.Need-place-requires Inv-loop μ-loop
+place-requires c κs =
+    let test = c .before .before .before in
+    let inv = test .before .loop .inv in
+    (stands-formed _ _ _ (inv .stands), may-go-on _ _ _ _ _ inv (test .loop-test .taken) _ (c .before .choice-code .ensures) (c .if1 .left))
 
 loop-again : tie.Need-loop-again Inv-loop μ-loop
 loop-again c =
-    let test = c .before .before .before .before .before .before in
-    making-goes _ _ _ _ _ (test .before .loop .inv) (test .loop-test .taken) (sym (c .before .before .free .ensures) ∙ not-false _ (c .before .if2 .left))
-    _ (c .place .ensures .0)
+    let test = c .before .before .before .before in
+    making-goes _ _ _ _ _ (test .before .loop .inv) (test .loop-test .taken) _ (c .before .before .choice-code .ensures) (c .before .if1 .left) _ (c .place .ensures .0)
 
 pub wire-spec : {M : Type 1} → statement M
 wire-spec =
@@ -43,13 +39,9 @@ wire-spec =
     (λ c κs. search needs)
     (λ c. making-starts _ _ _ _ (c .start .ensures .0))
     (λ c. omega arith)
-    (λ c κs. search needs)
+    (λ c κs. stands-formed _ _ _ (c .before .before .loop .inv .stands))
     returns
-    (λ c κs. stands-formed _ _ _ (c .before .before .before .before .loop .inv .stands))
-    returns-2
-    (λ c κs.
-    let formed = stands-formed _ _ _ (c .before .before .before .before .before .before .loop .inv .stands) in
-    (formed, sym (c .before .free .ensures) ∙ not-false _ (c .if2 .left)))
+    place-requires
     (λ c. omega arith)
     (λ c. omega arith)
     loop-again

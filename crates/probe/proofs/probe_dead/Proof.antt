@@ -7,9 +7,9 @@ use borrow.Author.Tests.{eq-eqb, ne-eqb}
 use native.Mathlib.Omega.{arith}
 use Rattle.answers.specs.declared.Answer.{Answer}
 use Rattle.answers.proofs.Faults.{sound-as, bad-as}
-use Rattle.records.specs.Records.{inputs, both-read}
+use Rattle.records.specs.Records.{inputs, both-read, Accepted}
 use Rattle.wirings.specs.Pairs.{first-dead}
-use Rattle.wirings.proofs.Agreement.{Accepted, both-sound, framed-both, few-inputs}
+use Rattle.records.proofs.Frame.{both-sound, framed-both, few-inputs}
 use Rattle.partial.specs.Partial.{StandsFor, found}
 use Rattle.partial.proofs.Standing.{stands-formed, stands-prefix, stands-n}
 use Rattle.checker.specs.Checking.{choices-fault}

@@ -1,25 +1,16 @@
--- A record without a fault ends where its header says.
-use mathlib.Core.Bool.{false≢true}
+-- An accepted record is framed.
+use mathlib.Core.Path.{sym, ap, _∙_}
 use borrow.Author.Needs.{needs}
 use borrow.Author.Tests.{eqb-true}
-use Rattle.answers.proofs.Faults.{sound-as}
-use Rattle.records.proofs.Frame.{record-sound}
+use Rattle.answers.specs.declared.Answer.{Answer}
+use Rattle.records.proofs.Frame.{record-sound, both-fine}
 use Rattle.cases.proofs.wirings.sound.Statement.{statement}
 use Rattle.cases.proofs.wirings.sound.Tie as tie
 
-returns-2 : tie.Need-returns-2
-returns-2 c =
-    let test = c .before .before in
-    (λ e. (
-      record-sound _ (sound-as (test .before .before .record-fault .ensures) (test .if1 .left)) .framed .long,
-      record-sound _ (sound-as (c .before .record-fault2 .ensures) (eqb-true _ 0 e)) .framed .long,
-    ))
+returns : tie.Need-returns
+returns c e =
+    let fine = both-fine _ _ (ap (λ (a : Answer). a .code) (sym (c .before .both .ensures)) ∙ eqb-true _ 0 e) in
+    (record-sound _ (fine .0) .framed .long, record-sound _ (fine .1) .framed .long)
 
 pub sound-spec : {M : Type 1} → statement M
-sound-spec =
-    tie.close
-    (tie.spec
-    (λ c κs. search needs)
-    (λ c e. absurd (false≢true e))
-    (λ c κs. search needs)
-    returns-2)
+sound-spec = tie.close (tie.spec (λ c κs. search needs) returns)
