@@ -1,9 +1,9 @@
 -- Tests of every number below a bound: `every`, `any` and `count` say what they seem to.
 use Prim.Native.Nat.{ℕ, zero, suc, _+_, _≤_, _<_}
 use mathlib.Core.Path.{_≡_, refl, sym, ap, ap₂, _∙_}
-use mathlib.Core.Bool.{Bool, true, false, cond, _&&_, _||_, false≢true}
+use mathlib.Core.Bool.{Bool, true, false, cond, _&&_, _||_, false≢true, or-false, or-assoc}
 use mathlib.Core.Logic.{_⊎_, ⊎-elim}
-use native.Mathlib.Nat.{le-refl, le-step, le-trans, add-assoc, le-of-suc-le-suc, not-suc-le-zero, eq-or-lt-of-le}
+use native.Mathlib.Nat.{le-refl, le-step, le-trans, add-zero, add-suc, add-assoc, le-of-suc-le-suc, not-suc-le-zero, eq-or-lt-of-le}
 use native.Mathlib.Omega.{arith}
 use borrow.Author.Tests.{ltb-true, lt-ltb}
 use lib.Dec.{ltb}
@@ -48,6 +48,12 @@ module _ (p : ℕ → Bool) where
 
   pub any-none : (n : ℕ) → ((k : ℕ) → k < n → p k ≡ true → ⊥) → any n p ≡ false
   any-none n f = not-passed (any n p) (λ e. let w = any-at n e in f (w .0) (w .1) (w .2))
+
+  -- the numbers below n, and the m numbers from there on
+  pub any-add : (n m : ℕ) → any (n + m) p ≡ any n p || any m (λ k. p (n + k))
+  unfolding any
+  any-add n zero = rw add-zero (sym (or-false (any n p)))
+  any-add n (suc m) = rw add-suc (ap (λ (t : Bool). t || p (n + m)) (any-add n m) ∙ or-assoc (any n p) (any m (λ k. p (n + k))) (p (n + m)))
 
   -- no more numbers pass than there are
   pub count-le : (n : ℕ) → count n p ≤ n

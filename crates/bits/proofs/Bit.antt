@@ -2,9 +2,9 @@
 -- The idea: bit i of x is the lowest bit of x / 2^i, and every operator of the language goes through a shift.
 use Prim.Native.Nat.{ℕ, zero, suc, _+_, _-_, _*_, _/_, _%_, _^_, _≤_, _<_, zero-le, suc-le-suc, min, max}
 use mathlib.Core.Path.{_≡_, refl, sym, ap, ap₂, _∙_, subst, subst₂}
-use mathlib.Core.Bool.{Bool, true, false, cond, not, _&&_, _||_, false≢true}
+use mathlib.Core.Bool.{Bool, true, false, cond, not, _&&_, _||_, xor, false≢true}
 use mathlib.Core.Logic.{⊎-elim}
-use native.Mathlib.Nat.{le-trans, le-antisymm, le-of-eq, le-of-suc-le-suc, not-suc-le-zero, mod-lt, zero-lt-suc, zero-div, div-eq-of-lt, div-one, zero-min, zero-max, max-eq-left, mul-assoc, one-mul, add-zero, pow-suc, eq-or-lt-of-le, le-refl, mul-le-mul-right, mod-eq-of-lt}
+use native.Mathlib.Nat.{le-trans, le-antisymm, le-of-eq, le-of-suc-le-suc, not-suc-le-zero, mod-lt, zero-lt-suc, zero-div, div-eq-of-lt, div-one, mul-assoc, one-mul, add-zero, pow-suc, eq-or-lt-of-le, le-refl, mul-le-mul-right, mod-eq-of-lt}
 use native.Mathlib.Numerals.{add-one}
 use native.Mathlib.Omega.{arith}
 use borrow.Author.Tests.{eq-eqb, ne-eqb, eqb-true, eqb-false}
@@ -64,24 +64,27 @@ bit-xor i a b =
     one (suc zero) (suc (suc y)) h k = absurd (not-suc-le-zero (le-of-suc-le-suc k))
     one (suc (suc x)) (suc y) h k = absurd (not-suc-le-zero (le-of-suc-le-suc h))
 
--- the same, of the test whether a bit is 1
+-- the same, of the test whether a bit is 1: four cases decide it
+has-by : (op : ℕ → ℕ → ℕ) (t : Bool → Bool → Bool)
+    → eqb (op 0 0) 1 ≡ t false false → eqb (op 0 1) 1 ≡ t false true → eqb (op 1 0) 1 ≡ t true false → eqb (op 1 1) 1 ≡ t true true
+    → (x y : ℕ) → x ≤ 1 → y ≤ 1 → eqb (op x y) 1 ≡ t (eqb x 1) (eqb y 1)
+has-by op t none second first both zero zero h k = none
+has-by op t none second first both zero (suc zero) h k = second
+has-by op t none second first both zero (suc (suc y)) h k = absurd (not-suc-le-zero (le-of-suc-le-suc k))
+has-by op t none second first both (suc zero) zero h k = first
+has-by op t none second first both (suc zero) (suc zero) h k = both
+has-by op t none second first both (suc zero) (suc (suc y)) h k = absurd (not-suc-le-zero (le-of-suc-le-suc k))
+has-by op t none second first both (suc (suc x)) y h k = absurd (not-suc-le-zero (le-of-suc-le-suc h))
+
 pub has-or : (a b i : ℕ) → has (bitOr a b) i ≡ has a i || has b i
-has-or a b i = ap (λ (n : ℕ). eqb n 1) (bit-or i a b) ∙ go (bit i a) (bit i b) (bit-le i a) (bit-le i b)
-  where
-    go : (x y : ℕ) → x ≤ 1 → y ≤ 1 → eqb (max x y) 1 ≡ eqb x 1 || eqb y 1
-    go zero y h k = ap (λ (n : ℕ). eqb n 1) (zero-max y)
-    go (suc zero) y h k = ap (λ (n : ℕ). eqb n 1) (max-eq-left k)
-    go (suc (suc x)) y h k = absurd (not-suc-le-zero (le-of-suc-le-suc h))
+has-or a b i = ap (λ (n : ℕ). eqb n 1) (bit-or i a b) ∙ has-by max _||_ refl refl refl refl (bit i a) (bit i b) (bit-le i a) (bit-le i b)
 
 pub has-and : (a b i : ℕ) → has (bitAnd a b) i ≡ has a i && has b i
-has-and a b i = ap (λ (n : ℕ). eqb n 1) (bit-and i a b) ∙ go (bit i a) (bit i b) (bit-le i a) (bit-le i b)
-  where
-    go : (x y : ℕ) → x ≤ 1 → y ≤ 1 → eqb (min x y) 1 ≡ eqb x 1 && eqb y 1
-    go zero y h k = ap (λ (n : ℕ). eqb n 1) (zero-min y)
-    go (suc zero) zero h k = refl
-    go (suc zero) (suc zero) h k = refl
-    go (suc zero) (suc (suc y)) h k = absurd (not-suc-le-zero (le-of-suc-le-suc k))
-    go (suc (suc x)) y h k = absurd (not-suc-le-zero (le-of-suc-le-suc h))
+has-and a b i = ap (λ (n : ℕ). eqb n 1) (bit-and i a b) ∙ has-by min _&&_ refl refl refl refl (bit i a) (bit i b) (bit-le i a) (bit-le i b)
+
+pub has-xor : (a b i : ℕ) → has (bitXor a b) i ≡ xor (has a i) (has b i)
+unfolding xor
+has-xor a b i = ap (λ (n : ℕ). eqb n 1) (bit-xor i a b) ∙ has-by differ xor refl refl refl refl (bit i a) (bit i b) (bit-le i a) (bit-le i b)
 
 pub bit-shr : (i k x : ℕ) → bit i (x / 2 ^ k) ≡ bit (k + i) x
 unfolding bit
@@ -90,6 +93,9 @@ bit-shr i k x = ap (λ (n : ℕ). n % 2) (shr-shr x k i)
 pub bit-shl : (i k x : ℕ) → bit (k + i) (x * 2 ^ k) ≡ bit i x
 unfolding bit
 bit-shl i k x = ap (λ (n : ℕ). n % 2) (sym (shr-shr (x * 2 ^ k) k i) ∙ ap (λ (n : ℕ). n / 2 ^ i) (shl-shr x k))
+
+pub has-shr : (x k i : ℕ) → has (x / 2 ^ k) i ≡ has x (k + i)
+has-shr x k i = ap (λ (n : ℕ). eqb n 1) (bit-shr i k x)
 
 -- one bit, shifted within the width
 pub one-shifted : (w k : ℕ) → k < w → (1 * 2 ^ k) % 2 ^ w ≡ 2 ^ k

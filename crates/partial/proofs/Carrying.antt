@@ -1,29 +1,28 @@
 -- A cube carried over, by masks. The idea: at each input of g the three masks say what the definitions say of literals, so
 -- that two tests of masks decide whether a pair is separated and whether it is dead.
-use Prim.Native.Nat.{ℕ, _+_, _^_, _≤_, _<_}
+use Prim.Native.Nat.{ℕ, _+_, _*_, _/_, _%_, _^_, _≤_, _<_}
 use mathlib.Core.Path.{_≡_, refl, sym, ap, ap₂, _∙_}
-use mathlib.Core.Bool.{Bool, true, false, cond, not, _&&_, _||_, and-assoc, and-comm}
+use mathlib.Core.Bool.{Bool, true, false, cond, not, _&&_, _||_, xor, and-assoc, and-comm}
 use mathlib.Core.List.{List, []}
-use native.Mathlib.Nat.{lt-of-le-of-lt, lt-of-lt-of-le}
-use native.Mathlib.Numerals.{add-one}
+use native.Mathlib.Nat.{le-trans, lt-of-le-of-lt, lt-of-lt-of-le}
 use native.Mathlib.Omega.{arith}
-use borrow.Author.Tests.{eq-eqb, ne-eqb}
-use lib.Bits.{bitAnd, bitOr, and-le-r, or-lt, and-mask}
+use borrow.Author.Tests.{lt-ltb, eq-eqb, ne-eqb}
+use lib.Bits.{bitAnd, bitOr, bitXor, xor-comm, and-le-r, or-lt}
 use lib.Dec.{ltb, eqb}
 use lib.Pow.{pow-mono}
 use lib.ListN.{length, getD}
 use Rattle.bits.specs.Bits.{has, mask, any}
 use Rattle.bits.proofs.Below.{any-or, any-same, any-under, any-never}
-use Rattle.bits.proofs.Bit.{has-or, has-and, has-zero, any-bit}
-use Rattle.bits.proofs.Mask.{mask-lt, mask-at, mask-none, mask-same, mask-add}
+use Rattle.bits.proofs.Bit.{has-or, has-and, has-xor, has-zero, any-bit}
+use Rattle.bits.proofs.Mask.{mask-lt, mask-has, mask-at, mask-same}
 use Rattle.cubes.specs.Cubes.{cube-names}
 use Rattle.rules.specs.Rules.{follows}
 use Rattle.wirings.specs.Wirings.{input-of, inverted, straight}
-use Rattle.wirings.specs.Pairs.{asks-one, asks-zero, lands, carried-pos, carried-neg, separates, unplaced, unused, unplaced-literal, unused-literal, dead}
+use Rattle.wirings.specs.Pairs.{asks-one, asks-zero, carried-pos, carried-neg, separates, unplaced, unused, unplaced-literal, unused-literal, dead}
 use Rattle.partial.specs.declared.Carried.{Carried}
 use Rattle.partial.specs.declared.Wiring.{Wiring}
-use Rattle.partial.specs.Partial.{prefix, Formed, located, carried, opposes, clears}
-use Rattle.partial.proofs.Standing.{located-plain, stands-unplaced, stands-free}
+use Rattle.partial.specs.Partial.{inverts, serves, prefix, Formed, led, carried, opposes, clears}
+use Rattle.partial.proofs.Standing.{placed-within, stands-unplaced, stands-free, stands-inverted, stands-bits}
 use Rattle.wirings.proofs.Dead.{not-either}
 use Rattle.wirings.proofs.Choices.{placed-input}
 use Rattle.wirings.proofs.Agreement.{lands-any}
@@ -115,54 +114,63 @@ module _ (n : ℕ) (few : n ≤ 8) (w : List ℕ) (allowed : follows (straight n
       ap not (ap₂ _||_ opposes-separates (free-meets (unplaced-literal n w P N) n few w P′ N′))
       ∙ not-either (separates w P N P′ N′) (unplaced-literal n w P N) (unused-literal n w P′ N′)
 
--- ---- the loop that carries: the literals on the first d inputs have landed
+-- ---- all placed literals carried at once
 
-module _ (w : List ℕ) (P N : ℕ) where
-  pub record Carrying (d ones zeros : ℕ) : Type 0 where
-    pub within : d ≤ length w
-    pub pos : ones ≡ mask 8 (lands asks-one w d P N)
-    pub neg : zeros ≡ mask 8 (lands asks-zero w d P N)
+-- an inverted choice changes the side of its literal
+side-turned : (p n t : Bool) → xor p (xor p n && t) ≡ cond t n p
+unfolding xor
+side-turned true true true = refl
+side-turned true true false = refl
+side-turned true false true = refl
+side-turned true false false = refl
+side-turned false true true = refl
+side-turned false true false = refl
+side-turned false false true = refl
+side-turned false false false = refl
 
-  pub carrying-starts : Carrying 0 0 0
-  unfolding any
-  carrying-starts = record { within = omega arith; pos = sym (mask-none 8 _ (λ j l. refl)); neg = sym (mask-none 8 _ (λ j l. refl)) }
+module _ (r : Wiring) (s : Formed r) where
+  abbrev w : List ℕ
+  w = prefix r
 
-  -- one input more: bit i of the mask that the choice takes, moved to the input that it names
-  lands-more : (asks : ℕ → ℕ → ℕ → ℕ → Bool) (d : ℕ) → input-of (getD w d 0) < 8 → (taken : ℕ) → has taken d ≡ asks (getD w d 0) P N d
-      → bitOr (mask 8 (lands asks w d P N)) (cond (has taken d) (2 ^ input-of (getD w d 0)) 0) ≡ mask 8 (lands asks w (d + 1) P N)
-  unfolding any
-  lands-more asks d h taken e =
-      rw add-one
-      (mask-add 8 (lands asks w d P N) (input-of (getD w d 0)) h (has taken d)
-      ∙ mask-same 8 _ _ (λ j l. ap (λ (b : Bool). lands asks w d P N j || eqb j (input-of (getD w d 0)) && b) e))
+  within : length w ≤ 8
+  within = le-trans (placed-within (r .n) (s .few) w (s .allowed)) (s .few)
 
-  pub carrying-goes : (d ones zeros : ℕ) → Carrying d ones zeros → d < length w → d < 8 → input-of (getD w d 0) < 8 → (to one null one′ null′ : ℕ)
-      → to ≡ located w d → one ≡ cond (inverted to) N P → null ≡ cond (inverted to) P N
-      → one′ ≡ cond (has one d) (2 ^ bitAnd to 15) 0 → null′ ≡ cond (has null d) (2 ^ bitAnd to 15) 0
-      → Carrying (d + 1) (bitOr ones one′) (bitOr zeros null′)
-  carrying-goes d ones zeros c h few inside to one null one′ null′ there is-one is-null moved-one moved-null =
-      let here : to ≡ getD w d 0 = there ∙ located-plain w d few in
-      let j : bitAnd to 15 ≡ input-of (getD w d 0) = and-mask to 4 ∙ ap input-of here in
-      record {
-        within = omega arith;
-        pos =
-            ap₂ bitOr (c .pos) (moved-one ∙ ap (λ (k : ℕ). cond (has one d) (2 ^ k) 0) j)
-            ∙ lands-more asks-one d inside one (ap (λ (m : ℕ). has m d) is-one ∙ picked (inverted to) N P d ∙ ap (λ (b : ℕ). asks-one b P N d) here);
-        neg =
-            ap₂ bitOr (c .neg) (moved-null ∙ ap (λ (k : ℕ). cond (has null d) (2 ^ k) 0) j)
-            ∙ lands-more asks-zero d inside null (ap (λ (m : ℕ). has m d) is-null ∙ picked (inverted to) P N d ∙ ap (λ (b : ℕ). asks-zero b P N d) here);
-      }
+  -- what the masks say of input i: which input of g serves it, and whether its choice is inverted
+  served : (i j : ℕ) → i < 8 → j < 8 → has (r .bits) (8 * i + j) ≡ ltb i (length w) && eqb j (input-of (getD w i 0))
+  served i j h l =
+      let byte : (8 * i + j) / 8 ≡ i = omega arith in
+      let place : (8 * i + j) % 8 ≡ j = omega arith in
+      ap (λ (m : ℕ). has m (8 * i + j)) (stands-bits r (r .n) w s) ∙ mask-has 64 (serves w) (8 * i + j) (omega arith)
+      ∙ ap₂ (λ (i j : ℕ). ltb i (length w) && eqb j (input-of (getD w i 0))) byte place
+
+  marked : (i : ℕ) → i < length w → has (r .inverted) i ≡ inverted (getD w i 0)
+  marked i h =
+      ap (λ (m : ℕ). has m i) (stands-inverted r (r .n) w s) ∙ mask-has 8 (inverts w) i (lt-of-lt-of-le h within) ∙ ap (λ (t : Bool). t && inverted (getD w i 0)) (lt-ltb i (length w) h)
+
+  -- the literals of one side
+  led-pos : (P N : ℕ) → led (r .bits) (bitXor P (bitAnd (bitXor P N) (r .inverted))) ≡ carried-pos w P N
+  led-pos P N =
+      mask-same 8 _ _
+      (λ j l.
+      any-same _ _ 8 (λ i h. ap (λ (t : Bool). t && has asking i) (served i j h l) ∙ and-assoc (ltb i (length w)) (eqb j (input-of (getD w i 0))) (has asking i))
+      ∙ any-under (λ i. eqb j (input-of (getD w i 0)) && has asking i) (length w) 8 within
+      ∙ any-same _ _ (length w) (λ i h. ap (λ (t : Bool). eqb j (input-of (getD w i 0)) && t) (asked i h)))
     where
-      picked : (t : Bool) (a b i : ℕ) → has (cond t a b) i ≡ cond t (has a i) (has b i)
-      picked true a b i = refl
-      picked false a b i = refl
+      asking : ℕ
+      asking = bitXor P (bitAnd (bitXor P N) (r .inverted))
 
-  -- all are carried
-  pub carrying-ends : (n d ones zeros free : ℕ) → Carrying d ones zeros → length w ≤ d → free ≡ cond (unplaced-literal n w P N) (mask n (unused w)) 0
-      → record { pos = ones; neg = zeros; free = free } ≡ carried n w P N
+      asked : (i : ℕ) → i < length w → has asking i ≡ asks-one (getD w i 0) P N i
+      asked i h =
+          has-xor P (bitAnd (bitXor P N) (r .inverted)) i
+          ∙ ap (xor (has P i)) (has-and (bitXor P N) (r .inverted) i ∙ ap₂ _&&_ (has-xor P N i) (marked i h))
+          ∙ side-turned (has P i) (has N i) (inverted (getD w i 0))
+
+  -- of both, and where one may still come to stand
+  pub all-led : (P N ones zeros free : ℕ) → let turned = bitAnd (bitXor P N) (r .inverted) in
+      ones ≡ led (r .bits) (bitXor P turned) → zeros ≡ led (r .bits) (bitXor N turned) → free ≡ cond (unplaced-literal (r .n) w P N) (mask (r .n) (unused w)) 0
+      → record { pos = ones; neg = zeros; free = free } ≡ carried (r .n) w P N
   unfolding carried
-  carrying-ends n d ones zeros free c h e =
-      let all : d ≡ length w = omega (arith, c .within) in
-      let pos-is = c .pos ∙ ap (λ (k : ℕ). mask 8 (lands asks-one w k P N)) all in
-      let neg-is = c .neg ∙ ap (λ (k : ℕ). mask 8 (lands asks-zero w k P N)) all in
-      λ i. record { pos = pos-is i; neg = neg-is i; free = e i }
+  all-led P N ones zeros free is-ones is-zeros is-free =
+      let pos-is = is-ones ∙ led-pos P N in
+      let neg-is = is-zeros ∙ ap (λ (m : ℕ). led (r .bits) (bitXor N (bitAnd m (r .inverted)))) (xor-comm P N) ∙ led-pos N P in
+      λ i. record { pos = pos-is i; neg = neg-is i; free = is-free i }

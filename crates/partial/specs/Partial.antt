@@ -5,6 +5,7 @@ use mathlib.Core.Path.{_≡_}
 use mathlib.Core.Bool.{Bool, true, false, cond, not, _&&_, _||_}
 use mathlib.Core.List.{List, [], _∷_, flatMap}
 use mathlib.Core.Option.{Option, none, some}
+use lib.Dec.{ltb, eqb}
 use lib.ListN.{length, getD}
 use Rattle.bits.specs.Bits.{has, mask, any}
 use Rattle.cubes.specs.Cubes.{cube-names}
@@ -27,9 +28,24 @@ unfoldable pub as-bytes : ℕ → ℕ → List ℕ
 as-bytes zero c = []
 as-bytes (suc k) c = c % 256 ∷ as-bytes k (c / 256)
 
+-- input i is placed, and its choice is inverted; for k = 8·i + j, it is placed, and input j of g serves it
+abbrev pub inverts : List ℕ → ℕ → Bool
+inverts w i = ltb i (length w) && inverted (getD w i 0)
+
+abbrev pub serves : List ℕ → ℕ → Bool
+serves w k = ltb (k / 8) (length w) && eqb (k % 8) (input-of (getD w (k / 8) 0))
+
 -- the partial wiring of n inputs with the choices w
 unfoldable pub partial : ℕ → List ℕ → Wiring
-partial n w = record { n = n; depth = length w; unplaced = mask n (unplaced w); free = mask n (unused w); choices = as-number w }
+partial n w = record {
+  n = n;
+  depth = length w;
+  unplaced = mask n (unplaced w);
+  free = mask n (unused w);
+  inverted = mask 8 (inverts w);
+  choices = as-number w;
+  bits = mask 64 (serves w);
+}
 
 -- n is at most 8, and the rule of 01 allows the choices
 pub record StandsFor (r : Wiring) (n : ℕ) (w : List ℕ) : Type 0 where
@@ -55,6 +71,10 @@ unfoldable pub located : List ℕ → ℕ → ℕ
 located w literal =
     let b = getD w (input-of literal) 0 in
     cond (inverted literal) (cond (inverted b) (b - 16) (b + 16)) b
+
+-- the inputs of g that serve some of these inputs of f, where bit 8·i + j says whether input j serves input i
+abbrev pub led : ℕ → ℕ → ℕ
+led bits inputs = mask 8 (λ j. any 8 (λ i. has bits (8 * i + j) && has inputs i))
 
 -- a cube carried over: what its placed literals ask of the inputs of g, and where one not yet placed may come to stand
 unfoldable pub carried : ℕ → List ℕ → ℕ → ℕ → Carried

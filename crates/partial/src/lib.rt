@@ -1,26 +1,30 @@
 // The partial wiring, by value: one step gives it the next input's choice and returns it, and it answers where a cube's
 // literals go. With it, the test of one pair and the first dead pair of two records.
 ghost use mathlib.Core.Path.{_≡_};
-ghost use mathlib.Core.Bool.{true, cond};
+ghost use mathlib.Core.Bool.{true};
 ghost use mathlib.Core.List.{[]};
 ghost use mathlib.Core.Option.{none};
-ghost use Prim.Native.Nat.{_≤_, _<_, _^_};
+ghost use Prim.Native.Nat.{_+_, _*_, _/_, _≤_};
 ghost use lib.ListN.{length};
-ghost use Rattle.bits.specs.Bits.{has};
+ghost use Rattle.bits.specs.Bits.{has, mask, any};
 ghost use Rattle.rules.specs.Rules.{_adding_};
 ghost use Rattle.records.specs.Records.{record-end};
-ghost use Rattle.wirings.specs.Wirings.{inverted, choice-at, is-choice};
+ghost use Rattle.wirings.specs.Wirings.{choice-at, is-choice};
 ghost use Rattle.wirings.specs.Pairs.{separates, dead, side, against, first-dead};
-ghost use Rattle.partial.specs.Partial.{prefix, StandsFor, Formed, may-place, located, carried, opposes, clears, found, row, rows};
+ghost use Rattle.partial.specs.Partial.{prefix, StandsFor, Formed, may-place, located, led, carried, opposes, clears, found, row, rows};
 
 // A partial wiring of n inputs: the inputs of f below `depth` have their choices, byte i of `choices` for input i. Two masks
-// say what remains: the inputs of f that are unplaced, and the inputs of g that are free.
+// say what remains: the inputs of f that are unplaced, and the inputs of g that are free. Two more hold the choices bit by bit,
+// so that a cube is carried over without a loop: `inverted` has bit i if input i's choice is inverted, and byte i of `bits` has
+// the bit of the input of g that serves input i.
 pub struct Wiring {
     pub n: u8,
     pub depth: u8,
     pub unplaced: u8,
     pub free: u8,
+    pub inverted: u8,
     pub choices: u64,
+    pub bits: u64,
 }
 
 // A cube of f carried over to the inputs of g: the inputs that its placed literals ask to be 1, those they ask to be 0, and
@@ -95,23 +99,29 @@ fn nothing() -> Found
     }
 }
 
-// Of two masks the one that a choice takes: the first if it is plain, the second if inverted.
-fn taken(choice: u8, plain: u8, turned: u8) -> u8
-    ensures { λ r. ⌜ r ≡ cond (inverted choice) turned plain ⌝ }
+// Byte i is 255 where bit i is 1, and else 0: of a copy in each byte, bit i of byte i is kept and carried to the top of its
+// byte; taken down, it fills the byte.
+fn spread(inputs: u8) -> u64
+    ensures { λ r. ⌜ r ≡ mask 64 (λ k. has inputs (k / 8)) ⌝ }
 {
-    if choice < 16 {
-        return plain;
-    }
-    turned
+    let diagonal = (inputs as u64 * 0x0101_0101_0101_0101) & 0x8040_2010_0804_0201;
+    (((diagonal + 0x0040_6070_787C_7E7F) >> 7) & 0x0101_0101_0101_0101) * 255
 }
 
-// Bit i of a mask, as bit j.
-fn moved(mask: u8, i: u8, j: u8) -> u8
-    requires { ⌜ i < 8 ⌝ }
-    requires { ⌜ j < 8 ⌝ }
-    ensures { λ r. ⌜ r ≡ cond (has mask i) (2 ^ j) 0 ⌝ }
+// Bit j is 1 where some byte has bit j.
+fn folded(bytes: u64) -> u8
+    ensures { λ r. ⌜ r ≡ mask 8 (λ j. any 8 (λ i. has bytes (8 * i + j))) ⌝ }
 {
-    ((mask >> i) & 1) << j
+    let four = bytes | (bytes >> 32);
+    let two = four | (four >> 16);
+    ((two | (two >> 8)) & 255) as u8
+}
+
+// The inputs of g that serve some of these inputs of f: the bytes of the others are left out.
+fn led(bits: u64, inputs: u8) -> u8
+    ensures { λ r. ⌜ r ≡ led bits inputs ⌝ }
+{
+    folded(bits & spread(inputs))
 }
 
 impl Carried {
@@ -163,7 +173,9 @@ impl Wiring {
             depth: 0,
             unplaced: all,
             free: all,
+            inverted: 0,
             choices: 0,
+            bits: 0,
         }
     }
 
@@ -185,12 +197,16 @@ impl Wiring {
         ensures { λ r. ⌜ StandsFor r (self .n) (prefix self adding choice) ⌝ }
         ensures { λ r. ⌜ Formed r ⌝ }
     {
+        let i = self.depth;
+        let j = choice & 15;
         Wiring {
             n: self.n,
-            depth: self.depth + 1,
-            unplaced: self.unplaced & !(1 << self.depth),
-            free: self.free & !(1 << (choice & 15)),
-            choices: self.choices + ((choice as u64) << (8 * self.depth)),
+            depth: i + 1,
+            unplaced: self.unplaced & !(1 << i),
+            free: self.free & !(1 << j),
+            inverted: self.inverted | ((choice >> 4) << i),
+            choices: self.choices + ((choice as u64) << (8 * i)),
+            bits: self.bits | (1u64 << (8 * i + j)),
         }
     }
 
@@ -204,20 +220,14 @@ impl Wiring {
         choice ^ (literal & 16)
     }
 
-    // Where the literals of a cube of f go.
+    // Where the literals of a cube of f go: an inverted choice turns its literal round.
     pub fn carry(self, pos: u8, neg: u8) -> Carried
         requires { ⌜ Formed self ⌝ }
         ensures { λ r. ⌜ r ≡ carried (self .n) (prefix self) pos neg ⌝ }
     {
-        let mut i = 0u8;
-        let mut ones = 0u8;
-        let mut zeros = 0u8;
-        while i < self.depth {
-            let to = self.locate(i);
-            ones = ones | moved(taken(to, pos, neg), i, to & 15);
-            zeros = zeros | moved(taken(to, neg, pos), i, to & 15);
-            i += 1;
-        }
+        let turned = (pos ^ neg) & self.inverted;
+        let ones = led(self.bits, pos ^ turned);
+        let zeros = led(self.bits, neg ^ turned);
         if (pos | neg) & self.unplaced == 0 {
             return Carried {
                 pos: ones,
