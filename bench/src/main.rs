@@ -4,14 +4,13 @@
 //! once and only compares answers. The archive is looked for in
 //! ../target/staticlib, or where ZAP_ARCHIVES says.
 //!
-//! - `calls`: the functions under test, taken from the static archive;
+//! - `zap_tests::calls`: the functions under test, taken from the static archive;
 //! - `plain`: the same in plain Rust, as one would write it without proofs;
 //! - `inputs`: functions and claims, made with fixed seeds;
 //! - `table`: both sides run in turn, and the table of the best times.
 //!
 //! A bench of the matcher has its rows beside those of the checker, below.
 
-mod calls;
 mod inputs;
 mod plain;
 mod table;
@@ -21,6 +20,7 @@ use std::process::ExitCode;
 
 use inputs::Input;
 use table::{Row, Side};
+use zap_tests::calls;
 
 fn main() -> ExitCode {
     let words: Vec<String> = env::args().skip(1).collect();
