@@ -8,6 +8,7 @@ use native.Mathlib.Nat.{le-antisymm, le-refl}
 use native.Mathlib.Omega.{arith}
 use lib.Dec.{leb, ltb, eqb}
 use lib.ListN.{length, getD}
+use Rattle.bits.proofs.Tests.{cond-cases}
 use Rattle.answers.specs.declared.Fault.{Fault}
 use Rattle.answers.specs.declared.Answer.{Answer}
 use Rattle.answers.specs.Answers.{fault, sound, is-sound, refused, _then_, _or-else_, by, present, byte-fault, length-fault}
@@ -18,12 +19,6 @@ sound-as e z = ap (λ (f : Fault). f .code) (sym e) ∙ z
 
 pub bad-as : {f g : Fault} → f ≡ g → (f .code ≡ 0 → ⊥) → g .code ≡ 0 → ⊥
 bad-as e bad z = bad (ap (λ (f : Fault). f .code) e ∙ z)
-
--- ---- a choice by a test: what holds of both things holds of the one that is chosen
-
-pub cond-cases : {A : Type 0} (Q : A → Type 0) (t : Bool) (a b : A) → Q a → Q b → Q (cond t a b)
-cond-cases Q true a b p q = p
-cond-cases Q false a b p q = q
 
 -- ---- a choice by a code: the next thing where it is 0, and else the thing that has the code
 

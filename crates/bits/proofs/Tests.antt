@@ -1,7 +1,7 @@
 -- Tests as Booleans: what a joined test says of its parts, and how two tests are shown to be the same.
 use Prim.Native.Nat.{ℕ, _≤_, _<_}
 use mathlib.Core.Path.{_≡_, refl, sym, ap, ap₂}
-use mathlib.Core.Bool.{Bool, true, false, not, _&&_, _||_, false≢true}
+use mathlib.Core.Bool.{Bool, true, false, cond, not, _&&_, _||_, false≢true}
 use mathlib.Core.Logic.{_⊎_, inl, inr, ⊎-elim}
 use borrow.Author.Tests.{ltb-true, ltb-false, eqb-true, eq-eqb}
 use lib.Dec.{eqb, ltb}
@@ -63,3 +63,8 @@ below-or-not a b = ⊎-elim (λ e. inl (ltb-true a b e)) (λ e. inr (ltb-false a
 pub not-passed : (a : Bool) → (a ≡ true → ⊥) → a ≡ false
 not-passed true f = absurd (f refl)
 not-passed false f = refl
+
+-- what holds of both things holds of the one that a test chooses
+pub cond-cases : {A : Type 0} (Q : A → Type 0) (t : Bool) (a b : A) → Q a → Q b → Q (cond t a b)
+cond-cases Q true a b p q = p
+cond-cases Q false a b p q = q

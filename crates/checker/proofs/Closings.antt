@@ -34,22 +34,20 @@ pub index-good : (c : List ℕ) (k number : ℕ) → Index c k number → index-
 unfolding index-fault
 index-good c k number h = simp (lt-leb _ _ (h .there), lt-ltb _ _ (h .below))
 
-module _ (n q : ℕ) (f g c w : List ℕ) (at : ℕ) where
-  abbrev s : ℕ
-  s = getD c at 0
+-- the fault of u, the fault of v, and whether their pair is dead
+abbrev pub u-fault : List ℕ → List ℕ → ℕ → Fault
+u-fault f c at = index-fault c (at + 1) (cubes-in (side (getD c at 0) f))
 
-  abbrev pub first-index : Fault
-  first-index = index-fault c (at + 1) (cubes-in (side s f))
+abbrev pub v-fault : ℕ → List ℕ → List ℕ → ℕ → Fault
+v-fault q g c at = index-fault c (at + 2) (cubes-in (side (against q (getD c at 0)) g))
 
-  abbrev pub second-index : Fault
-  second-index = index-fault c (at + 2) (cubes-in (side (against q s) g))
+abbrev pub named-dead : ℕ → ℕ → List ℕ → List ℕ → List ℕ → List ℕ → ℕ → Bool
+named-dead n q f g c w at = of-pair q f g (dead n w) (getD c at 0, getD c (at + 1) 0, getD c (at + 2) 0)
 
-  abbrev pub named-dead : Bool
-  named-dead = of-pair q f g (dead n w) (s, getD c (at + 1) 0, getD c (at + 2) 0)
-
-  -- test by test
-  pub closing-steps : closing-fault n q f g c w at ≡ byte-fault c at 0 1 15 then (first-index then (second-index then (cond named-dead sound (fault 17 at) then read-to (at + 3))))
-  unfolding closing-fault
-  closing-steps =
-      let d = cond named-dead sound (fault 17 at) in
-      then-assoc _ d (read-to (at + 3)) ∙ then-assoc _ second-index (d then read-to (at + 3)) ∙ then-assoc _ first-index (second-index then (d then read-to (at + 3)))
+-- test by test
+pub closing-steps : (n q : ℕ) (f g c w : List ℕ) (at : ℕ)
+    → closing-fault n q f g c w at ≡ byte-fault c at 0 1 15 then (u-fault f c at then (v-fault q g c at then (cond (named-dead n q f g c w at) sound (fault 17 at) then read-to (at + 3))))
+unfolding closing-fault
+closing-steps n q f g c w at =
+    let d = cond (named-dead n q f g c w at) sound (fault 17 at) then read-to (at + 3) in
+    then-assoc _ (cond (named-dead n q f g c w at) sound (fault 17 at)) (read-to (at + 3)) ∙ then-assoc _ (v-fault q g c at) d ∙ then-assoc _ (u-fault f c at) (v-fault q g c at then d)

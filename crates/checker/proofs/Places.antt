@@ -8,11 +8,13 @@ use native.Mathlib.Nat.{le-refl, le-trans, sub-zero}
 use native.Mathlib.Omega.{arith}
 use lib.Dec.{ltb, eqb}
 use lib.ListN.{length, getD, drop, length-drop}
+use Rattle.bits.proofs.Tests.{cond-cases}
 use Rattle.answers.specs.declared.Answer.{Answer}
 use Rattle.answers.specs.declared.Fault.{Fault}
 use Rattle.answers.specs.Answers.{by, _or-else_, length-fault}
-use Rattle.answers.proofs.Faults.{cond-cases, then-cases, present-cases, chosen-elim, then-elim, then-both, length-sound, byte-place, length-place}
+use Rattle.answers.proofs.Faults.{then-cases, present-cases, chosen-elim, then-elim, then-both, length-sound, byte-place, length-place}
 use Rattle.rules.specs.Rules.{_adding_}
+use Rattle.rules.proofs.Cut.{reached-start}
 use Rattle.records.specs.Records.{inputs, record-fault, both-read}
 use Rattle.records.proofs.Frame.{record-sound, both-fine}
 use Rattle.records.proofs.Places.{both-place}
@@ -22,7 +24,7 @@ use Rattle.claims.specs.Claims.{longest-refusal}
 use Rattle.claims.specs.Reading.{_onward_}
 use Rattle.claims.proofs.Reading.{onward-place, tree-place}
 use Rattle.claims.proofs.Trees.{longest-grows}
-use Rattle.claims.proofs.Refusals.{two-each, reached-start, match-length, refusal-length, longest-most}
+use Rattle.claims.proofs.Refusals.{two-each, match-length, refusal-length, longest-most}
 use Rattle.checker.specs.Checking.{header-fault, choice-code, choices-fault, match-fault, index-fault, closing-fault, tree-fault, refusal-fault, claim-fault, checking}
 use Rattle.checker.proofs.Closings.{named-dead}
 use Rattle.checker.proofs.Exact.{claim-sound}
@@ -92,7 +94,7 @@ module _ (f g c : List ℕ) (fine : record-fault g .code ≡ 0) where
 
   tree-near : (q at : ℕ) → By (at + longest-tree n) (tree-fault n q f g c [] at)
   unfolding tree-fault
-  tree-near q at = rw sub-zero (tree-place (straight n) (closing-fault n q f g c) c n (two-each n (omega (arith, few))) (closing-near n q f g c) n [] (reached-start n) at)
+  tree-near q at = rw sub-zero (tree-place (straight n) (closing-fault n q f g c) c n (two-each n (omega (arith, few))) (closing-near n q f g c) n [] (reached-start (straight n) n) at)
 
   refusal-place : Within (refusal-fault f g c)
   unfolding refusal-fault _onward_

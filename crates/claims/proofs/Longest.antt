@@ -19,7 +19,7 @@ use Rattle.cubes.specs.Cubes.{cube-names, cube-holds, cubes-share, some-cube}
 use Rattle.rules.specs.Lists.{run, each-in}
 use Rattle.rules.specs.Rules.{_adding_, next}
 use Rattle.rules.proofs.Lists.{In, each-at, run-in}
-use Rattle.rules.proofs.Cut.{Reached, reached-next}
+use Rattle.rules.proofs.Cut.{Reached, reached-next, reached-start}
 use Rattle.answers.specs.Answers.{is-sound, _then_, byte-fault, length-fault}
 use Rattle.records.specs.Records.{inputs, on-list, off-list, cube-code, clash-code, first-fault, header-bytes, header-fault, record-fault, Bytes, Accepted}
 use Rattle.wirings.specs.Wirings.{input-of, inverted, straight}
@@ -27,7 +27,6 @@ use Rattle.wirings.specs.Pairs.{Pair, opposed, separates, unplaced, dead, side,
 use Rattle.wirings.proofs.Choices.{free-number}
 use Rattle.claims.specs.Trees.{Tree, Trees, closing, split, end, _and_, tree-bytes, trees-bytes, right-each, right, longest-tree}
 use Rattle.claims.specs.Claims.{IsRefusal, names-pair, closes, refusal-claim, longest-refusal}
-use Rattle.claims.proofs.Refusals.{reached-start}
 
 -- ---- the full tree: splits down to the last input, and everywhere the closing 0, 0, 0
 
@@ -129,8 +128,8 @@ unfolding names-pair side against on-list off-list
 full-refusal n small = record {
   tree₀ = full n;
   tree₁ = full n;
-  right₀ = full-right n small (closes 0 (constant n) (wire n)) (λ w. bare-dead n w 0 1) n [] (reached-start n);
-  right₁ = full-right n small (closes 1 (constant n) (wire n)) (λ w. bare-dead n w 1 0) n [] (reached-start n);
+  right₀ = full-right n small (closes 0 (constant n) (wire n)) (λ w. bare-dead n w 0 1) n [] (reached-start (straight n) n);
+  right₁ = full-right n small (closes 1 (constant n) (wire n)) (λ w. bare-dead n w 1 0) n [] (reached-start (straight n) n);
   bytes = refl;
 }
 

@@ -14,8 +14,8 @@ use lib.ListN.{length, getD, drop, length-append, length-drop}
 use lib.Seq.{drop-cons, drop-drop, drop-append-seam, getD-drop}
 use Rattle.answers.specs.declared.Fault.{Fault}
 use Rattle.answers.specs.Answers.{fault}
-use Rattle.answers.proofs.Faults.{next-chosen, this-chosen, chosen, cond-cases}
-use Rattle.bits.proofs.Tests.{both, both-left, both-right}
+use Rattle.answers.proofs.Faults.{next-chosen, this-chosen, chosen}
+use Rattle.bits.proofs.Tests.{both, both-left, both-right, cond-cases}
 use Rattle.rules.specs.Rules.{Rule, _adding_, next}
 use Rattle.rules.proofs.Lists.{In}
 use Rattle.rules.proofs.Cut.{Reached, reached-next}

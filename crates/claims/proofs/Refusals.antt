@@ -1,24 +1,23 @@
 -- What the claims of document 01 say: a refusal shows that no wiring agrees, so that a match and a refusal never stand together; and
 -- how long a claim can be.
-use Prim.Native.Nat.{ℕ, suc, _+_, _≤_}
+use Prim.Native.Nat.{ℕ, zero, suc, _+_, _≤_, _<_}
 use mathlib.Core.Path.{_≡_, refl, sym, ap, _∙_}
 use mathlib.Core.Bool.{true, false, _&&_, false≢true}
 use mathlib.Core.List.{List, [], _∷_, map}
-use mathlib.Core.Logic.{inl, inr}
-use native.Mathlib.Nat.{add-zero, le-of-eq, le-of-suc-le-suc, le-trans}
+use native.Mathlib.Nat.{le-of-eq, le-of-suc-le-suc, le-trans}
 use native.Mathlib.Omega.{arith}
 use borrow.Author.Tests.{ltb-true, lt-ltb}
 use lib.Dec.{ltb}
 use lib.ListN.{length, length-append}
 use Rattle.bits.proofs.Tests.{both, both-left, both-right}
-use Rattle.rules.specs.Rules.{completions, follows}
-use Rattle.rules.proofs.Lists.{In, flat-in, map-in, some-if}
-use Rattle.rules.proofs.Cut.{Reached}
+use Rattle.rules.specs.Rules.{completions}
+use Rattle.rules.proofs.Lists.{In, some-if}
+use Rattle.rules.proofs.Cut.{reached-start}
 use Rattle.records.specs.Records.{inputs, Accepted}
-use Rattle.wirings.specs.Wirings.{straight, is-wiring, wirings, agrees, agreeing}
+use Rattle.wirings.specs.Wirings.{straight, is-wiring, agrees, agreeing}
 use Rattle.wirings.specs.Pairs.{Pair, cubes-in, side, pairs, of-pair, dead}
 use Rattle.wirings.proofs.Choices.{free-number}
-use Rattle.wirings.proofs.Wirings.{wiring-in, wiring-parts}
+use Rattle.wirings.proofs.Wirings.{wiring-parts, whole-in}
 use Rattle.records.proofs.Frame.{few-inputs}
 use Rattle.wirings.proofs.Death.{in-pair, pair-in, some-dead, never-agrees}
 use Rattle.claims.specs.Trees.{Tree, tree-bytes, longest-tree}
@@ -28,11 +27,6 @@ use Rattle.claims.proofs.Trees.{TwoEach, Kills, right-none, tree-length
 -- with k inputs still to be placed there are two choices for each
 pub two-each : (n : ℕ) → n ≤ 16 → TwoEach (straight n) n
 two-each n small k w r = le-of-eq (free-number n small w (r .allowed) (suc k) (r .total))
-
--- before any choice, all inputs are still to be placed
-pub reached-start : (n : ℕ) → Reached (straight n) n n []
-unfolding follows
-reached-start n = record { total = add-zero n; allowed = refl }
 
 -- ---- closings
 
@@ -67,28 +61,22 @@ module _ (q : ℕ) (f g : List ℕ) where
 module _ (f g : List ℕ) (ok : Accepted f g) where
   -- where a tree for q is right, no wiring of that phase agrees
   tree-none : (q : ℕ) (t : Tree) → right-for q f g t ≡ true → (w : List ℕ) → In w (completions (straight (inputs g)) (inputs g) []) → agrees q f g w ≡ false
-  tree-none q t = let n = inputs g in right-none (straight n) n (agrees q f g) (closes q f g) (closes-dies q f g ok) n [] t (reached-start n)
+  tree-none q t = let n = inputs g in right-none (straight n) n (agrees q f g) (closes q f g) (closes-dies q f g ok) n [] t (reached-start (straight n) n)
 
   -- a refusal shows that no wiring agrees
-  pub refusal-none : (c : List ℕ) → IsRefusal f g c → (v : List ℕ) → In v (wirings (inputs g)) → agreeing f g v ≡ false
-  unfolding wirings In
-  refusal-none c h v i =
-      let whole = completions (straight (inputs g)) (inputs g) [] in
-      let x = flat-in (λ q. map (λ (w : List ℕ). q ∷ w) whole) v (0 ∷ 1 ∷ []) i in
-      let y = map-in (λ (w : List ℕ). x .0 ∷ w) v whole (x .2) in
-      ap (agreeing f g) (y .2) ∙ phase (x .0) (x .1) (y .0) (y .1)
+  pub refusal-none : (c : List ℕ) → IsRefusal f g c → (v : List ℕ) → is-wiring (inputs g) v ≡ true → agreeing f g v ≡ false
+  unfolding is-wiring
+  refusal-none c h [] e = absurd (false≢true e)
+  refusal-none c h (q ∷ w) e = phase q (wiring-parts (inputs g) q w e .0) (whole-in (inputs g) q w e)
     where
-      phase : (q : ℕ) → In q (0 ∷ 1 ∷ []) → (w : List ℕ) → In w (completions (straight (inputs g)) (inputs g) []) → agrees q f g w ≡ false
-      phase q (inl e) w j = ap (λ (q : ℕ). agrees q f g w) e ∙ tree-none 0 (h .tree₀) (h .right₀) w j
-      phase q (inr (inl e)) w j = ap (λ (q : ℕ). agrees q f g w) e ∙ tree-none 1 (h .tree₁) (h .right₁) w j
-
-  -- the wiring of a match is one of them
-  pub match-listed : (c : List ℕ) (m : IsMatch f g c) → In (m .wiring) (wirings (inputs g))
-  match-listed c m = wiring-in (inputs g) (m .wiring) (m .whole)
+      phase : (q : ℕ) → q < 2 → In w (completions (straight (inputs g)) (inputs g) []) → agrees q f g w ≡ false
+      phase zero l = tree-none 0 (h .tree₀) (h .right₀) w
+      phase (suc zero) l = tree-none 1 (h .tree₁) (h .right₁) w
+      phase (suc (suc q)) l = absurd (omega (arith, l))
 
   -- so there is never a match and a refusal
   pub not-both : (c c′ : List ℕ) → IsMatch f g c → IsRefusal f g c′ → ⊥
-  not-both c c′ m h = false≢true (sym (refusal-none c′ h (m .wiring) (match-listed c m)) ∙ m .agrees)
+  not-both c c′ m h = false≢true (sym (refusal-none c′ h (m .wiring) (m .whole)) ∙ m .agrees)
 
 -- ---- how long a claim is
 
@@ -104,7 +92,7 @@ match-length f g c m = ap length (m .bytes) ∙ go (m .wiring) (m .whole)
 pub refusal-length : (f g c : List ℕ) → inputs g ≤ 8 → IsRefusal f g c → length c ≤ longest-refusal (inputs g)
 refusal-length f g c few h =
     let n = inputs g in
-    let short : (q : ℕ) (t : Tree) → right-for q f g t ≡ true → length (tree-bytes t) ≤ longest-tree n = λ q t. tree-length (straight n) n (two-each n (omega arith)) (closes q f g) n [] t (reached-start n) in
+    let short : (q : ℕ) (t : Tree) → right-for q f g t ≡ true → length (tree-bytes t) ≤ longest-tree n = λ q t. tree-length (straight n) n (two-each n (omega arith)) (closes q f g) n [] t (reached-start (straight n) n) in
     omega (arith, ap length (h .bytes), length-append (tree-bytes (h .tree₀)) (tree-bytes (h .tree₁)), short 0 (h .tree₀) (h .right₀), short 1 (h .tree₁) (h .right₁))
 
 -- and there are at most 8 inputs

@@ -46,6 +46,6 @@ pub record IsRefusal (f g c : List ℕ) : Type 0 where
   pub right₁ : right-for 1 f g tree₁ ≡ true
   pub bytes : c ≡ refusal-claim (inputs g) tree₀ tree₁
 
--- the bytes of the longest refusal of functions of n inputs
+-- the length of the longest refusal of functions of n inputs
 abbrev pub longest-refusal : ℕ → ℕ
 longest-refusal n = 3 + 2 * longest-tree n

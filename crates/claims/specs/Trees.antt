@@ -42,7 +42,7 @@ module _ (R : Rule) (closes : List ℕ → Pair → Bool) where
   right (suc k) w (closing s u v) = closes w (s, u, v)
   right (suc k) w (split l) = right-each (λ b. right k (w adding b)) (next R w) l
 
--- the bytes of the longest tree with k inputs to be placed, each of which has two choices for each input of g that is left
+-- the length of the longest tree with k inputs to be placed: it splits everywhere, into two trees for each input of g that is left
 unfoldable pub longest-tree : ℕ → ℕ
 longest-tree zero = 3
 longest-tree (suc k) = 1 + 2 * suc k * longest-tree k

@@ -13,7 +13,6 @@ use Rattle.answers.specs.declared.Answer.{Answer}
 use Rattle.answers.specs.Answers.{accepted}
 use Rattle.records.specs.Records.{inputs, Bytes, Accepted}
 use Rattle.wirings.specs.Wirings.{is-wiring, agreeing}
-use Rattle.wirings.proofs.Wirings.{wiring-in}
 use Rattle.claims.specs.Claims.{match-claim, IsMatch, IsRefusal}
 use Rattle.claims.proofs.Refusals.{refusal-none, not-both}
 use Rattle.checker.specs.Checking.{checking}
@@ -61,7 +60,7 @@ module _ (κs : Lfts 3) (a : Dens κs check-kinds.ps) (r : resT check-kinds.r κ
 
     -- and then no wiring agrees
     pub refusal-means-none : r .kind ≡ 2 → (v : List ℕ) → is-wiring (inputs g) v ≡ true → agreeing f g v ≡ false
-    refusal-means-none k v whole = let x = refusal-by-rules k in refusal-none f g (x .0) c (x .1) v (wiring-in (inputs g) v whole)
+    refusal-means-none k v whole = let x = refusal-by-rules k in refusal-none f g (x .0) c (x .1) v whole
 
   -- every place returned is at most the length of the longest refusal, so that it fits the host's number
   pub place-most : r .place ≤ 75323621

@@ -18,7 +18,7 @@ use Rattle.wirings.specs.Wirings.{choices-from, served, read-at, disagree-at, a
 use Rattle.wirings.specs.Pairs.{separates, dead, side, against}
 use Rattle.claims.specs.Reading.{_onward_, in-turn, read-tree}
 use Rattle.checker.specs.Checking.{header-fault as claim-header, choice-code, choices-fault, match-fault, index-fault, closing-fault, tree-fault, refusal-fault, claim-fault, kind-of, checking}
-use Rattle.demands.proofs.Table.{Conj, Disj, Odd, Const, Wire, Conj-Disj, Const-Wire, one-input, Row, check-of, AllRight}
+use Rattle.demands.proofs.Table.{Conj, Odd, Const, Wire, Const-Wire, one-input, Row, check-of, AllRight}
 use Rattle.checker.proofs.check.Kinds as check-kinds
 use Rattle.checker.proofs.check.Reads as check
 use Rattle.records.proofs.read.Kinds as read-kinds
@@ -56,7 +56,7 @@ pub checker-answers : (κs : Lfts 3) (a : Dens κs check-kinds.ps) (f g c : List
     → check.Post κs (at-last (a .0) f, (at-last (a .1 .0) g, (at-last (a .1 .1 .0) c, tt))) r s → r ≡ answer
 checker-answers κs a f g c answer e r s p = p ∙ e
 
--- the conjunction's inputs, and on at every pattern
+-- on at every pattern, with as many inputs as Conj
 abbrev Const-2 : List ℕ
 Const-2 = 0x46 ∷ 0x4E ∷ 0x02 ∷ 0x01 ∷ 0x00 ∷ 0x00 ∷ 0x00 ∷ []
 
@@ -67,27 +67,25 @@ F-2-1 = 0x46 ∷ 0x4E ∷ 0x03 ∷ 0x02 ∷ 0x01 ∷ 0x00 ∷ 0x03 ∷ 0x04 ∷ 
 abbrev G-2-1 : List ℕ
 G-2-1 = 0x46 ∷ 0x4E ∷ 0x03 ∷ 0x01 ∷ 0x01 ∷ 0x01 ∷ 0x04 ∷ 0x02 ∷ 0x01 ∷ []
 
--- in this order: one that refuses all; one that reads the first tree and only skips the second; a closing without the dead test, or
--- 17 at another byte than the node's first; g's index tested against the wrong list with q = 1; on tested against off with q = 1;
--- a split at depth n; bytes after the end; 13 at the first use; j applied the wrong way round, which would change the last two
--- answers for one another
+-- besides the table's own rows (Conj to Disj is accepted: not one that refuses all; 13 at the second use: not one that gives it at
+-- the first), in this order: one that reads the first tree and only skips the second; a closing without the dead test, or 17 at
+-- another byte than the node's first; g's index tested against the wrong list with q = 1; on tested against off with q = 1; a split
+-- at depth n; bytes after the end; j applied the wrong way round, which would change the last two answers for one another
 abbrev pub wrong-checkers : List Row
 wrong-checkers =
-    check-of Conj Disj Conj-Disj (accepted 1 6)
-    ∷ check-of Const Wire (0x52 ∷ 0x46 ∷ 0x01 ∷ 0x00 ∷ 0x00 ∷ 0x00 ∷ 0x00 ∷ 0x00 ∷ 0x01 ∷ []) (refused 15 3 8)
+    check-of Const Wire (0x52 ∷ 0x46 ∷ 0x01 ∷ 0x00 ∷ 0x00 ∷ 0x00 ∷ 0x00 ∷ 0x00 ∷ 0x01 ∷ []) (refused 15 3 8)
     ∷ check-of Conj Odd (0x52 ∷ 0x46 ∷ 0x02 ∷ 0x00 ∷ 0x00 ∷ 0x00 ∷ []) (refused 17 3 3)
     ∷ check-of Const-2 Conj (0x52 ∷ 0x46 ∷ 0x02 ∷ 0x00 ∷ 0x00 ∷ 0x01 ∷ 0x00 ∷ 0x00 ∷ 0x01 ∷ []) (refused 15 3 8)
     ∷ check-of Wire Wire (one-input 0x01 0x00) (refused 14 3 0)
     ∷ check-of Const Wire (0x52 ∷ 0x46 ∷ 0x01 ∷ 0xFF ∷ 0xFF ∷ []) (refused 16 3 4)
     ∷ check-of Const Wire (Const-Wire ++ (0x00 ∷ [])) (refused 8 3 9)
-    ∷ check-of Conj Disj (0x4D ∷ 0x54 ∷ 0x02 ∷ 0x01 ∷ 0x10 ∷ 0x10 ∷ []) (refused 13 3 5)
     ∷ check-of F-2-1 G-2-1 (0x4D ∷ 0x54 ∷ 0x03 ∷ 0x00 ∷ 0x01 ∷ 0x02 ∷ 0x10 ∷ []) (accepted 1 7)
     ∷ check-of F-2-1 G-2-1 (0x4D ∷ 0x54 ∷ 0x03 ∷ 0x00 ∷ 0x12 ∷ 0x00 ∷ 0x01 ∷ []) (refused 14 3 0)
     ∷ []
 
 pub wrong-checkers-ruled-out : AllRight wrong-checkers
 unfolding bit number every any count cube-holds cubes-share some-cube _then_ by _or-else_ byte-fault length-fault filter some-in on-list off-list cube-code clash-code first-fault header-bytes header-fault record-fault both-read choices-from served read-at disagree-at agrees separates dead side against _onward_ in-turn read-tree claim-header choice-code choices-fault match-fault index-fault closing-fault tree-fault refusal-fault claim-fault kind-of checking
-wrong-checkers-ruled-out = (refl, (refl, (refl, (refl, (refl, (refl, (refl, (refl, (refl, (refl, tt))))))))))
+wrong-checkers-ruled-out = (refl, (refl, (refl, (refl, (refl, (refl, (refl, (refl, tt))))))))
 
 -- ---- the bytes at fault
 

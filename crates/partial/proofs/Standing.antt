@@ -223,7 +223,7 @@ module _ (r : Wiring) (b : ℕ) (s : Formed r) (may : may-place r b ≡ true) wh
   pub input-room : bitAnd b 15 < 8
   input-room = omega (arith, and-mask b 4, choice-input (r .n) (omega (arith, s .few)) b choice, s .few)
 
-  -- the choice at its place in the as-number number
+  -- the choice at its place in the packed number
   grown : r .choices + b * 2 ^ (8 * r .depth) ≡ as-number more
   grown = ap₂ (λ (c d : ℕ). c + b * 2 ^ (8 * d)) (stands-choices r (r .n) w s) (stands-depth r (r .n) w s) ∙ sym (number-add w b)
 

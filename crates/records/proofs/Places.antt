@@ -9,10 +9,11 @@ use lib.Dec.{leb, eqb}
 use lib.ListN.{length, drop, length-take, length-drop}
 use Rattle.bits.specs.Bits.{has, any}
 use Rattle.cubes.specs.Cubes.{cube-names}
+use Rattle.bits.proofs.Tests.{cond-cases}
 use Rattle.answers.specs.declared.Fault.{Fault}
 use Rattle.answers.specs.declared.Answer.{Answer}
 use Rattle.answers.specs.Answers.{fault, sound, fine, refused, by, byte-fault}
-use Rattle.answers.proofs.Faults.{cond-cases, then-cases, byte-cases, length-cases, chosen-elim, then-elim, then-both, byte-place, length-place}
+use Rattle.answers.proofs.Faults.{then-cases, byte-cases, length-cases, chosen-elim, then-elim, then-both, byte-place, length-place}
 use Rattle.records.specs.Records.{inputs, on-count, cubes-at, on-list, off-list, is-cubes, header-bytes, header-fault, cubes-fault, clash-fault, record-end, record-fault, both-read, first-fault, cube-code, clash-code}
 use Rattle.records.proofs.Frame.{Framed, bytes-sound, header-sound}
 

@@ -6,6 +6,7 @@ use mathlib.Core.Bool.{Bool, true, false, cond, true≢false}
 use mathlib.Core.List.{List, [], _∷_, flatMap}
 use mathlib.Core.Option.{Option, none, some}
 use mathlib.Core.Logic.{⊎-elim}
+use native.Mathlib.Nat.{add-zero}
 use native.Mathlib.Omega.{arith}
 use lib.ListN.{length, length-append}
 use Rattle.bits.proofs.Tests.{both, decide}
@@ -45,6 +46,11 @@ module _ (R : Rule) (n : ℕ) where
   pub record Reached (k : ℕ) (w : List ℕ) : Type 0 where
     pub total : k + length w ≡ n
     pub allowed : follows R [] w ≡ true
+
+  -- before any choice, all are to come
+  pub reached-start : Reached n []
+  unfolding follows
+  reached-start = record { total = add-zero n; allowed = refl }
 
   -- one choice more that may follow
   pub reached-next : (k : ℕ) (w : List ℕ) (b : ℕ) → Reached (suc k) w → In b (next R w) → Reached k (w adding b)

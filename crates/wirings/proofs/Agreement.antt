@@ -80,7 +80,7 @@ module _ (P N x : ℕ) where
 module _ (asks : ℕ → ℕ → ℕ → ℕ → Bool) (w : List ℕ) (P N : ℕ) where
   -- the inputs of g on which some literal lands
   abbrev landed : ℕ
-  landed = mask 8 (lands asks w (length w) P N)
+  landed = mask 8 (lands asks w P N)
 
   -- the literal on input i lands on input j
   abbrev lands-by : ℕ → ℕ → Bool
@@ -90,11 +90,11 @@ module _ (asks : ℕ → ℕ → ℕ → ℕ → Bool) (w : List ℕ) (P N : ℕ
   lands-at : (i : ℕ) → i < length w → input-of (getD w i 0) < 8 → asks (getD w i 0) P N i ≡ true → has landed (input-of (getD w i 0)) ≡ true
   lands-at i h inside a =
       let j = input-of (getD w i 0) in
-      mask-has 8 (lands asks w (length w) P N) j inside ∙ any-if (lands-by j) (length w) i h (both (eq-eqb j j refl) a)
+      mask-has 8 (lands asks w P N) j inside ∙ any-if (lands-by j) (length w) i h (both (eq-eqb j j refl) a)
 
   lands-from : (j : ℕ) → j < 8 → has landed j ≡ true → (i : ℕ) × (i < length w) × (j ≡ input-of (getD w i 0)) × (asks (getD w i 0) P N i ≡ true)
   lands-from j h e =
-      let x = any-at (lands-by j) (length w) (sym (mask-has 8 (lands asks w (length w) P N) j h) ∙ e) in
+      let x = any-at (lands-by j) (length w) (sym (mask-has 8 (lands asks w P N) j h) ∙ e) in
       let b = getD w (x .0) 0 in
       (x .0, x .1, eqb-true j (input-of b) (both-left (eqb j (input-of b)) (asks b P N (x .0)) (x .2)), both-right (eqb j (input-of b)) (asks b P N (x .0)) (x .2))
 
@@ -171,7 +171,7 @@ pub carried-apart : (w : List ℕ) (P N : ℕ) → apart w ≡ true → bitAnd P
 carried-apart w P N a e =
     let C = carried-pos w P N in
     let D = carried-neg w P N in
-    bits-zero 8 (bitAnd C D) (lt-of-le-of-lt (and-le-l C D) (mask-lt 8 (lands asks-one w (length w) P N)))
+    bits-zero 8 (bitAnd C D) (lt-of-le-of-lt (and-le-l C D) (mask-lt 8 (lands asks-one w P N)))
     (λ j h.
     bit-not-one j (bitAnd C D)
     (λ q.
@@ -206,7 +206,7 @@ module _ (n : ℕ) (small : n ≤ 8) (w : List ℕ) (allowed : follows (straight
   -- so a cube carried over names inputs below n alone
   landed-lt : (asks : ℕ → ℕ → ℕ → ℕ → Bool) (P N : ℕ) → landed asks w P N < 2 ^ n
   landed-lt asks P N =
-      narrow-mask 8 n small (lands asks w (length w) P N)
+      narrow-mask 8 n small (lands asks w P N)
       (λ j from.
       any-none (lands-by asks w P N j) (length w)
       (λ i h e. let here = eqb-true j (input-of (getD w i 0)) (both-left (eqb j (input-of (getD w i 0))) (asks (getD w i 0) P N i) e) in omega (arith, below-n i h)))
@@ -247,7 +247,7 @@ module _ (n : ℕ) (small : n ≤ 8) (w : List ℕ) (allowed : follows (straight
     lemma-2-1 p m p′ m′ e e′ =
         let C = carried-pos w P N in
         let D = carried-neg w P N in
-        let d = mask-lt 8 (lands asks-zero w (length w) P N) in
+        let d = mask-lt 8 (lands asks-zero w P N) in
         let d′ : N′ < 2 ^ 8 = le-trans m′ (pow-mono small) in
         any-same _ _ (2 ^ n) (λ y _. ap (λ (t : Bool). t && cube-holds P′ N′ y) (sym (carried-holds n small w whole (λ i h. placed-byte i (omega arith)) P N p m y)))
         ∙ share-masks C D P′ N′ n (landed-lt asks-one P N) p′ d d′

@@ -2,20 +2,20 @@
 -- dead pair, which no completion separates, nothing agrees; and a whole wiring that does not agree has a pair that it does not
 -- separate, which is dead.
 use Prim.Native.Nat.{ℕ, _*_, _≤_, _<_}
-use mathlib.Core.Path.{_≡_, refl, sym, _∙_, subst}
+use mathlib.Core.Path.{_≡_, sym, _∙_, subst}
 use mathlib.Core.Bool.{Bool, true, false, cond, not, false≢true}
 use mathlib.Core.List.{List, [], _∷_, map}
 use mathlib.Core.Option.{none, some, Option·some-ne-none}
-use native.Mathlib.Nat.{add-zero, le-trans}
+use native.Mathlib.Nat.{le-trans}
 use native.Mathlib.Omega.{arith}
 use borrow.Author.Tests.{not-true, not-false}
 use lib.Dec.{eqb}
 use lib.ListN.{drop, length-take}
 use Rattle.bits.proofs.Tests.{not-passed}
 use Rattle.rules.specs.Lists.{run, upto, some-in, each-in}
-use Rattle.rules.specs.Rules.{completions, follows}
+use Rattle.rules.specs.Rules.{completions}
 use Rattle.rules.proofs.Lists.{In, in-map, map-in, in-flat, flat-in, some-at, some-if, some-same, each-at, each-some, first-exists, first-found, in-run, run-in, AfterNone, first-after}
-use Rattle.rules.proofs.Cut.{Reached, Death, whole-reached}
+use Rattle.rules.proofs.Cut.{Reached, Death, whole-reached, reached-start}
 use Rattle.records.specs.Records.{inputs, on-count, off-count, cubes-at, off-at, on-list, off-list, Accepted}
 use Rattle.records.proofs.Frame.{Framed, few-inputs}
 use Rattle.wirings.specs.Wirings.{straight, wirings, phase, choices, agrees, agreeing}
@@ -96,12 +96,12 @@ module _ (n q : ℕ) (f g w : List ℕ) where
 
 -- each wiring of the list is one
 pub wiring-reached : (n : ℕ) (v : List ℕ) → In v (wirings n) → Reached (straight n) n 0 (choices v)
-unfolding wirings follows
+unfolding wirings
 wiring-reached n v i =
     let x = flat-in (λ q. map (λ (w : List ℕ). q ∷ w) (completions (straight n) n [])) v (0 ∷ 1 ∷ []) i in
     let y = map-in (λ (w : List ℕ). x .0 ∷ w) v (completions (straight n) n []) (x .2) in
     subst (λ (u : List ℕ). Reached (straight n) n 0 (choices u)) (sym (y .2))
-    (whole-reached (straight n) n n [] (record { total = add-zero n; allowed = refl }) (y .0) (y .1))
+    (whole-reached (straight n) n n [] (reached-start (straight n) n) (y .0) (y .1))
 
 -- ---- death, for accepted records
 

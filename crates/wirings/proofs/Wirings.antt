@@ -5,7 +5,7 @@ use mathlib.Core.Path.{_≡_, refl, sym, ap, ap₂, _∙_, subst}
 use mathlib.Core.Bool.{Bool, true, cond, _&&_, and-assoc, false≢true}
 use mathlib.Core.List.{List, [], _∷_, map}
 use mathlib.Core.Logic.{inl, inr, ⊎-elim}
-use native.Mathlib.Nat.{add-zero, mul-comm, mul-mul-mul-comm, pow-succ'}
+use native.Mathlib.Nat.{mul-comm, mul-mul-mul-comm, pow-succ'}
 use native.Mathlib.Omega.{arith}
 use borrow.Author.Tests.{eqb-true, eq-eqb, lt-ltb, ltb-true, le-leb, lt-leb}
 use lib.Dec.{ltb, eqb}
@@ -16,7 +16,7 @@ use Rattle.rules.specs.Rules.{next, completions, follows, before, _adding_}
 use Rattle.rules.proofs.Lists.{In, in-map, map-in, map-same, in-flat, flat-in, length-flat, some-at, some-if, in-run, run-in, same-is, same-self}
 use Rattle.rules.proofs.Completions.{completion-extends, completion-in}
 use Rattle.rules.proofs.Order.{Rising, rising-map, rising-flat, rising-once, before-at, completions-rise}
-use Rattle.rules.proofs.Cut.{Reached, reached-next}
+use Rattle.rules.proofs.Cut.{Reached, reached-next, reached-start}
 use Rattle.wirings.specs.Wirings.{input-of, choices-from, straight, is-choice, apart, is-wiring, rank, wirings}
 use Rattle.wirings.proofs.Choices.{follows-is, free-number}
 
@@ -92,14 +92,17 @@ wiring-parts n q w e =
 pub parts-wiring : (n q : ℕ) (w : List ℕ) → q < 2 → length w ≡ n → follows (straight n) [] w ≡ true → is-wiring n (q ∷ w) ≡ true
 parts-wiring n q w h e f = wiring-is n q w ∙ both (both (lt-ltb q 2 h) (eq-eqb (length w) n e)) f
 
+-- its choices are a way to go on from the start
+pub whole-in : (n q : ℕ) (w : List ℕ) → is-wiring n (q ∷ w) ≡ true → In w (completions (straight n) n [])
+whole-in n q w e = let x = wiring-parts n q w e in subst (λ (k : ℕ). In w (completions (straight n) k [])) (x .1) (completion-in (straight n) [] w (x .2))
+
 -- the list has every wiring, and only wirings
-pub wiring-in : (n : ℕ) (v : List ℕ) → is-wiring n v ≡ true → In v (wirings n)
+wiring-in : (n : ℕ) (v : List ℕ) → is-wiring n v ≡ true → In v (wirings n)
 unfolding is-wiring wirings run
 wiring-in n [] e = absurd (false≢true e)
 wiring-in n (q ∷ w) e =
-    let x = wiring-parts n q w e in
-    in-flat (of-phase n) q (q ∷ w) (0 ∷ 1 ∷ []) (run-in q 0 2 (omega arith) (x .0))
-    (in-map (λ (w : List ℕ). q ∷ w) w (completions (straight n) n []) (subst (λ (k : ℕ). In w (completions (straight n) k [])) (x .1) (completion-in (straight n) [] w (x .2))))
+    in-flat (of-phase n) q (q ∷ w) (0 ∷ 1 ∷ []) (run-in q 0 2 (omega arith) (wiring-parts n q w e .0))
+    (in-map (λ (w : List ℕ). q ∷ w) w (completions (straight n) n []) (whole-in n q w e))
 
 in-wiring : (n : ℕ) (v : List ℕ) → In v (wirings n) → is-wiring n v ≡ true
 unfolding wirings run
@@ -133,10 +136,10 @@ completions-number n small (suc k) w r =
 
 -- with two phases, 2 · n! · 2ⁿ wirings
 pub wirings-number : (n : ℕ) → n ≤ 16 → length (wirings n) ≡ 2 * (factorial n * 2 ^ n)
-unfolding wirings follows
+unfolding wirings
 wirings-number n small =
     length-flat (of-phase n) (factorial n * 2 ^ n) (0 ∷ 1 ∷ [])
-    (λ q _. length-map (completions (straight n) n []) (λ w. q ∷ w) ∙ completions-number n small n [] (record { total = add-zero n; allowed = refl }))
+    (λ q _. length-map (completions (straight n) n []) (λ w. q ∷ w) ∙ completions-number n small n [] (reached-start (straight n) n))
 
 -- for 1 to 8 inputs
 pub the-numbers :

@@ -31,15 +31,15 @@ separates w P N P′ N′ = any (length w) (λ i. opposed (getD w i 0) P N P′ 
 
 -- ---- a cube carried over, as masks: the inputs of g that its placed literals ask to be 1, and those they ask to be 0
 
--- of the literals on the first d inputs, one carried over to input j of g asks so
-abbrev pub lands : (ℕ → ℕ → ℕ → ℕ → Bool) → List ℕ → ℕ → ℕ → ℕ → ℕ → Bool
-lands asks w d P N j = any d (λ i. eqb j (input-of (getD w i 0)) && asks (getD w i 0) P N i)
+-- some placed literal, carried over to input j of g, asks so
+abbrev pub lands : (ℕ → ℕ → ℕ → ℕ → Bool) → List ℕ → ℕ → ℕ → ℕ → Bool
+lands asks w P N j = any (length w) (λ i. eqb j (input-of (getD w i 0)) && asks (getD w i 0) P N i)
 
 abbrev pub carried-pos : List ℕ → ℕ → ℕ → ℕ
-carried-pos w P N = mask 8 (lands asks-one w (length w) P N)
+carried-pos w P N = mask 8 (lands asks-one w P N)
 
 abbrev pub carried-neg : List ℕ → ℕ → ℕ → ℕ
-carried-neg w P N = mask 8 (lands asks-zero w (length w) P N)
+carried-neg w P N = mask 8 (lands asks-zero w P N)
 
 -- ---- dead: no placed literal separates the cubes, and the cube of f has no literal on an unplaced input or the cube of g
 -- none on an unused one

@@ -14,7 +14,7 @@ use Rattle.wirings.specs.Pairs.{cubes-in, side, against, pair-test, dead}
 use Rattle.partial.specs.Partial.{prefix}
 use Rattle.claims.specs.Reading.{read-to}
 use Rattle.checker.specs.Checking.{index-fault, closing-fault}
-use Rattle.checker.proofs.Closings.{Index, index-sound, first-index, second-index, named-dead, closing-steps}
+use Rattle.checker.proofs.Closings.{Index, index-sound, u-fault, v-fault, named-dead, closing-steps}
 use Rattle.checker.proofs.closing.Statement.{statement}
 use Rattle.checker.proofs.closing.Tie as tie
 
@@ -38,13 +38,13 @@ theirs c =
 
 -- u and v
 first : (c : tie.After-index-fault) → let a = c .before .before .before .before .before .before .before .before .before .before .before .before .args in
-    c .index-fault .result ≡ first-index (a .w .n) (a .q) (a .f .now) (a .g .now) (a .claim .now) (prefix (a .w)) (a .node)
+    c .index-fault .result ≡ u-fault (a .f .now) (a .claim .now) (a .node)
 first c =
     let a = c .before .before .before .before .before .before .before .before .before .before .before .before .args in
     c .index-fault .ensures ∙ ap (λ (l : List ℕ). index-fault (a .claim .now) (a .node + 1) (cubes-in l)) (ours (c .before .before .before .before))
 
 second : (c : tie.After-index-fault2) → let a = c .before .before .before .before .before .before .before .before .before .before .before .before .before .before .before .args in
-    c .index-fault2 .result ≡ second-index (a .w .n) (a .q) (a .f .now) (a .g .now) (a .claim .now) (prefix (a .w)) (a .node)
+    c .index-fault2 .result ≡ v-fault (a .q) (a .g .now) (a .claim .now) (a .node)
 second c =
     let a = c .before .before .before .before .before .before .before .before .before .before .before .before .before .before .before .args in
     c .index-fault2 .ensures ∙ ap (λ (l : List ℕ). index-fault (a .claim .now) (a .node + 2) (cubes-in l)) (theirs (c .before .before .before .before))
@@ -77,7 +77,7 @@ tested c =
 -- after the first test, after the second, and after the third: what remains decides
 after-s : (c : tie.Else1) (r : Fault) → let a = c .before .before .before .before .before .before .args in
     let n = a .w .n in let q = a .q in let f = a .f .now in let g = a .g .now in let claim = a .claim .now in let w = prefix (a .w) in let at = a .node in
-    r ≡ first-index n q f g claim w at then (second-index n q f g claim w at then (cond (named-dead n q f g claim w at) sound (fault 17 at) then read-to (at + 3)))
+    r ≡ u-fault f claim at then (v-fault q g claim at then (cond (named-dead n q f g claim w at) sound (fault 17 at) then read-to (at + 3)))
     → r ≡ closing-fault n q f g claim w at
 after-s c r e =
     let a = c .before .before .before .before .before .before .args in
