@@ -1,15 +1,18 @@
 -- Stores into a lent buffer, one byte after the other.
 use Prim.Native.Nat.{ℕ, suc, _+_, _≤_, _<_}
-use mathlib.Core.Path.{_≡_, refl, sym, ap, _∙_}
+use mathlib.Core.Path.{_≡_, refl, sym, ap, _∙_, subst₂}
+use mathlib.Core.Bool.{Bool, true, false, cond}
 use mathlib.Core.List.{List, [], _∷_, _++_}
 use native.Mathlib.Nat.{add-zero, zero-add, add-suc, suc-add}
 use native.Mathlib.Numerals.{add-one}
 use native.Mathlib.Omega.{arith}
+use borrow.Author.Tests.{lt-ltb, le-ltb, ltb-false, eqb-false}
+use lib.Dec.{ltb}
 use lib.ListN.{length, getD, take, drop, set}
 use lib.Seq.{sets, sets-eq, drop-cons, take-append-seam, drop-append-seam}
 use Rattle.answers.specs.declared.Answer.{Answer}
 use Rattle.answers.proofs.Faults.{next-chosen, this-chosen}
-use Rattle.answers.specs.Answers.{buffer-after, Delivered}
+use Rattle.answers.specs.Answers.{accepted, refused, fits, buffer-after, Delivered}
 
 -- one byte of the run is stored, and the others come after it
 pub store-next : (out bytes : List ℕ) (at i : ℕ) → i < length bytes
@@ -22,6 +25,13 @@ sets-join l [] b i = ap (λ (k : ℕ). sets l k b) (add-zero i)
 sets-join l (x ∷ a) b i =
     ap (λ (k : ℕ). sets (sets (set l i x) (suc i) a) k b) (add-suc i (length a) ∙ sym (suc-add i (length a)))
     ∙ sets-join (set l i x) a b (suc i)
+
+-- and so are three
+pub three-stored : (l a b c : List ℕ) (k : ℕ) → length a ≡ k → sets (sets (sets l 0 a) k b) (k + length b) c ≡ sets l 0 (a ++ (b ++ c))
+three-stored l a b c k e =
+    sets-join (sets l 0 a) b c k
+    ∙ ap (λ (m : ℕ). sets (sets l 0 a) m (b ++ c)) (omega (arith, e))
+    ∙ sets-join l a (b ++ c) 0
 
 -- what a caller finds: the buffer begins with the bytes, `place` of them, and goes on as before
 pub record Stands (bytes before after : List ℕ) (place : ℕ) : Type 0 where
@@ -38,7 +48,27 @@ sets-stands bytes before h =
       behind = ap (drop (length bytes)) e ∙ drop-append-seam bytes (drop (length bytes) before);
     }
 
--- a lent buffer after an accepted answer, and after a refusal
+-- ---- room for the answer
+
+pub fits-short : (kind room needed : ℕ) → room < needed → fits kind room needed ≡ refused 18 4 needed
+unfolding fits
+fits-short kind room needed h = simp (lt-ltb _ _ h)
+
+pub fits-enough : (kind room needed : ℕ) → needed ≤ room → fits kind room needed ≡ accepted kind needed
+unfolding fits
+fits-enough kind room needed h = simp (le-ltb _ _ h)
+
+pub fits-sound : (kind room needed : ℕ) → fits kind room needed .code ≡ 0 → needed ≤ room
+unfolding fits
+fits-sound kind room needed e = go (ltb room needed) refl e
+  where
+    go : (t : Bool) → ltb room needed ≡ t → cond t (refused 18 4 needed) (accepted kind needed) .code ≡ 0 → needed ≤ room
+    go true q h = absurd (omega (arith, h))
+    go false q h = ltb-false _ _ q
+
+-- ---- a lent buffer
+
+-- after an accepted answer, and after a refusal
 pub after-accepted : (a : Answer) (bytes before : List ℕ) → a .code ≡ 0 → buffer-after a bytes before ≡ sets before 0 bytes
 unfolding buffer-after
 after-accepted a bytes before = next-chosen (a .code) (sets before 0 bytes) before
@@ -55,3 +85,22 @@ delivered-refusal a bytes before r e bad =
 pub delivered-bytes : (a : Answer) (bytes before after : List ℕ) (r : Answer) → r ≡ a → r .code ≡ 0 → after ≡ sets before 0 bytes → Delivered a bytes before after r
 delivered-bytes a bytes before after r e good stored =
     record { returned = e; buffer = stored ∙ sym (after-accepted a bytes before (ap (λ (x : Answer). x .code) (sym e) ∙ good)) }
+
+-- where room is all that is still asked for: too short for the bytes, or long enough
+module _ (a : Answer) (kind needed : ℕ) (bytes before : List ℕ) (by-room : a ≡ fits kind (length before) needed) (r : Answer) where
+  pub delivered-short : length before < needed → r ≡ refused 18 4 needed → Delivered a bytes before before r
+  delivered-short h e = delivered-refusal a bytes before r (e ∙ sym (by-room ∙ fits-short kind (length before) needed h)) (λ z. eqb-false 18 0 refl (sym (ap (λ (x : Answer). x .code) e) ∙ z))
+
+  pub delivered-whole : needed ≤ length before → r ≡ accepted kind needed → (after : List ℕ) → after ≡ sets before 0 bytes → Delivered a bytes before after r
+  delivered-whole h e after stored =
+      delivered-bytes a bytes before after r (e ∙ sym (by-room ∙ fits-enough kind (length before) needed h)) (ap (λ (x : Answer). x .code) e) stored
+
+-- where room is asked for last, an accepted answer has the bytes at the buffer's start
+pub delivered-stands : (a : Answer) (kind : ℕ) (bytes before after : List ℕ) (r : Answer) → (a .code ≡ 0 → a ≡ fits kind (length before) (length bytes))
+    → Delivered a bytes before after r → r .code ≡ 0 → Stands bytes before after (r .place)
+delivered-stands a kind bytes before after r by-room d e =
+    let good : a .code ≡ 0 = ap (λ (x : Answer). x .code) (sym (d .returned)) ∙ e in
+    let room = fits-sound kind (length before) (length bytes) (ap (λ (x : Answer). x .code) (sym (by-room good)) ∙ good) in
+    let is : r ≡ accepted kind (length bytes) = d .returned ∙ by-room good ∙ fits-enough kind (length before) (length bytes) room in
+    subst₂ (λ (l : List ℕ) (place : ℕ). Stands bytes before l place) (sym (d .buffer ∙ after-accepted a bytes before good)) (ap (λ (x : Answer). x .place) (sym is))
+    (sets-stands bytes before room)

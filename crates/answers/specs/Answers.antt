@@ -58,6 +58,10 @@ byte-fault s k low high code = present s k (cond (leb low (getD s k 0) && leb (g
 unfoldable pub length-fault : ℕ → ℕ → Fault
 length-fault len end = cond (ltb len end) (fault 1 len) (cond (ltb end len) (fault 8 end) sound)
 
+-- room for the whole answer, which is asked for last: 18 with the length needed
+unfoldable pub fits : ℕ → ℕ → ℕ → Answer
+fits kind room needed = cond (ltb room needed) (refused 18 4 needed) (accepted kind needed)
+
 -- a lent buffer afterwards: the bytes at its start and nothing after them if accepted, else unchanged
 unfoldable pub buffer-after : Answer → List ℕ → List ℕ → List ℕ
 buffer-after answer bytes before = cond (eqb (answer .code) 0) (sets before 0 bytes) before

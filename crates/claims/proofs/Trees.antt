@@ -8,12 +8,12 @@ use mathlib.Core.Logic.{inl, inr, ⊎-elim}
 use native.Mathlib.Nat.{le-of-eq, suc-mul, mul-le-mul-right, eq-or-lt-of-le, le-of-suc-le-suc}
 use native.Mathlib.Omega.{arith}
 use lib.ListN.{length, length-append}
-use Rattle.bits.proofs.Tests.{both-left, both-right}
+use Rattle.bits.proofs.Tests.{both, both-left, both-right}
 use Rattle.rules.specs.Rules.{Rule, _adding_, next, completions}
 use Rattle.rules.proofs.Lists.{In, flat-in}
 use Rattle.rules.proofs.Cut.{Reached, reached-next}
 use Rattle.wirings.specs.Pairs.{Pair}
-use Rattle.claims.specs.Trees.{Tree, Trees, closing, split, end, _and_, tree-bytes, trees-bytes, right-each, right, longest-tree}
+use Rattle.claims.specs.Trees.{Tree, Trees, closing, split, end, _and_, tree-bytes, trees-bytes, right-each, tree-each, right, longest-tree}
 
 -- ---- the longest tree
 
@@ -50,6 +50,12 @@ module _ (right-of : ℕ → Tree → Bool) where
       let rest = trees-length m l ts (λ a i. h a (inr i)) (both-right (right-of b t) (right-each right-of l ts) e) in
       omega (arith, length-append (tree-bytes t) (trees-bytes ts), suc-mul (length l) m)
 
+  -- trees made for each choice are right where each is for its choice
+  pub each-right : (tree : ℕ → Tree) (l : List ℕ) → ((b : ℕ) → In b l → right-of b (tree b) ≡ true) → right-each right-of l (tree-each tree l) ≡ true
+  unfolding right-each tree-each In
+  each-right tree [] h = refl
+  each-right tree (b ∷ l) h = both (h b (inl refl)) (each-right tree l (λ a i. h a (inr i)))
+
 module _ (R : Rule) (n : ℕ) where
   -- from every closing nothing passes
   abbrev pub Kills : (List ℕ → Bool) → (List ℕ → Pair → Bool) → Type 0
@@ -67,15 +73,18 @@ module _ (R : Rule) (n : ℕ) where
       let t = tree-of (λ b. right R closes k (w adding b)) (next R w) ts e (x .0) (x .1) in
       right-none passes closes kills k (w adding x .0) (t .0) (reached-next R n k w (x .0) r (x .1)) (t .1) v (x .2)
 
-  -- a right tree is no longer than the longest
+  -- a split into trees no longer than the longest is no longer than the longest
+  pub split-length : TwoEach R n → (k : ℕ) (w : List ℕ) → Reached R n (suc k) w → (right-of : ℕ → Tree → Bool) (ts : Trees)
+      → ((b : ℕ) → In b (next R w) → (t : Tree) → right-of b t ≡ true → length (tree-bytes t) ≤ longest-tree k) → right-each right-of (next R w) ts ≡ true
+      → length (tree-bytes (split ts)) ≤ longest-tree (suc k)
+  unfolding tree-bytes longest-tree
+  split-length two k w r right-of ts short e = omega (arith, trees-length right-of (longest-tree k) (next R w) ts short e, mul-le-mul-right (longest-tree k) (two k w r))
+
+  -- so no right tree is longer
   pub tree-length : TwoEach R n → (closes : List ℕ → Pair → Bool) (k : ℕ) (w : List ℕ) (t : Tree) → Reached R n k w → right R closes k w t ≡ true → length (tree-bytes t) ≤ longest-tree k
   unfolding right tree-bytes longest-tree
   tree-length two closes zero w (closing s u v) r e = omega arith
   tree-length two closes zero w (split ts) r e = absurd (false≢true e)
   tree-length two closes (suc k) w (closing s u v) r e = longest-grows zero (suc k) (omega arith)
   tree-length two closes (suc k) w (split ts) r e =
-      omega (
-        arith,
-        trees-length (λ b. right R closes k (w adding b)) (longest-tree k) (next R w) ts (λ b i t e. tree-length two closes k (w adding b) t (reached-next R n k w b r i) e) e,
-        mul-le-mul-right (longest-tree k) (two k w r),
-      )
+      split-length two k w r (λ b. right R closes k (w adding b)) ts (λ b i t e. tree-length two closes k (w adding b) t (reached-next R n k w b r i) e) e

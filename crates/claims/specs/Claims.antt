@@ -1,13 +1,14 @@
 -- The two kinds of claim in the words of document 01, as data and as bytes.
-use Prim.Native.Nat.{ℕ, _+_, _*_}
+use Prim.Native.Nat.{ℕ, _+_, _-_, _*_}
 use mathlib.Core.Path.{_≡_}
 use mathlib.Core.Bool.{Bool, true, _&&_}
 use mathlib.Core.List.{List, [], _∷_, _++_}
 use lib.Dec.{ltb}
+use lib.ListN.{length}
 use Rattle.records.specs.Records.{inputs}
 use Rattle.wirings.specs.Wirings.{straight, is-wiring, agreeing}
-use Rattle.wirings.specs.Pairs.{Pair, cubes-in, side, against, of-pair, dead}
-use Rattle.claims.specs.Trees.{Tree, tree-bytes, right, longest-tree}
+use Rattle.wirings.specs.Pairs.{Pair, cubes-in, side, against, of-pair, dead, first-dead}
+use Rattle.claims.specs.Trees.{Tree, tree-bytes, right, own, longest-tree}
 
 -- ---- match claims: mark 4D 54, n, q, then for each input of f one byte
 
@@ -45,6 +46,10 @@ pub record IsRefusal (f g c : List ℕ) : Type 0 where
   pub right₀ : right-for 0 f g tree₀ ≡ true
   pub right₁ : right-for 1 f g tree₁ ≡ true
   pub bytes : c ≡ refusal-claim (inputs g) tree₀ tree₁
+
+-- the matcher's own tree for q after the choices w of n inputs
+unfoldable pub own-tree : ℕ → ℕ → List ℕ → List ℕ → List ℕ → Tree
+own-tree n q f g w = own (straight n) (first-dead n q f g) (n - length w) w
 
 -- the length of the longest refusal of functions of n inputs
 abbrev pub longest-refusal : ℕ → ℕ

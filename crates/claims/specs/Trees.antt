@@ -3,6 +3,7 @@
 use Prim.Native.Nat.{ℕ, zero, suc, _+_, _*_}
 use mathlib.Core.Bool.{Bool, true, false, _&&_}
 use mathlib.Core.List.{List, [], _∷_, _++_}
+use mathlib.Core.Option.{Option, none, some}
 use Rattle.rules.specs.Rules.{Rule, _adding_, next}
 use Rattle.wirings.specs.Pairs.{Pair}
 
@@ -41,6 +42,26 @@ module _ (R : Rule) (closes : List ℕ → Pair → Bool) where
   right zero w (split l) = false
   right (suc k) w (closing s u v) = closes w (s, u, v)
   right (suc k) w (split l) = right-each (λ b. right k (w adding b)) (next R w) l
+
+-- ---- the matcher's own tree
+
+-- closed with a pair, if there is one, and else split
+unfoldable pub closed-by : Option Pair → Trees → Tree
+closed-by (some p) l = closing (p .0) (p .1) (p .2)
+closed-by none l = split l
+
+-- a tree for each choice of a list
+unfoldable pub tree-each : (ℕ → Tree) → List ℕ → Trees
+tree-each tree [] = end
+tree-each tree (b ∷ l) = tree b and tree-each tree l
+
+-- after the choices w with k inputs still to be placed: a node with a dead pair is closed with the first, every other is split
+module _ (R : Rule) (first-dead : List ℕ → Option Pair) where
+  unfoldable pub own : ℕ → List ℕ → Tree
+  own zero w = closed-by (first-dead w) end
+  own (suc k) w = closed-by (first-dead w) (tree-each (λ b. own k (w adding b)) (next R w))
+
+-- ---- the longest
 
 -- the length of the longest tree with k inputs to be placed: it splits everywhere, into two trees for each input of g that is left
 unfoldable pub longest-tree : ℕ → ℕ

@@ -17,7 +17,7 @@ use Rattle.records.specs.Records.{inputs, on-list, off-list}
 use Rattle.records.proofs.Frame.{record-sound, reading-accepted, reading-code, summing-accepted, summing-code}
 use Rattle.records.proofs.Meaning.{Both, accepted-apart, patterns-bound, inputs-bound}
 use Rattle.writer.specs.Writing.{record-bytes, writing}
-use Rattle.writer.proofs.RoundTrip.{Same, written-read, delivered-stands, bytes-again, written-again}
+use Rattle.writer.proofs.RoundTrip.{Same, written-read, written-stands, bytes-again, written-again}
 use Rattle.records.proofs.read.Kinds as read-kinds
 use Rattle.records.proofs.read.Reads as read
 use Rattle.records.proofs.summary.Kinds as summary-kinds
@@ -37,7 +37,7 @@ pub write-read : (κs : Lfts 3) (a : Dens κs write-kinds.ps) (r : resT write-ki
     → let n = a .0 in let on = a .1 .0 .now in let off = a .1 .1 .0 .now in let before = a .1 .1 .1 .0 .now in let after = s .1 .1 .1 .0 .now in
     Stands (record-bytes n on off) before after (r .place) × Same n on off (record-bytes n on off)
 write-read κs a r s p e =
-    (delivered-stands _ _ _ _ _ r p e, written-read _ _ _ _ (ap (λ (x : Answer). x .code) (sym (p .returned)) ∙ e))
+    (written-stands _ _ _ _ _ r p e, written-read _ _ _ _ (ap (λ (x : Answer). x .code) (sym (p .returned)) ∙ e))
 
 -- where it refuses, no byte of the buffer changes
 pub write-refuses : (κs : Lfts 3) (a : Dens κs write-kinds.ps) (r : resT write-kinds.r κs .Denot) (s : AtExit (endedOf 3 write-kinds.ps write-kinds.r) κs)

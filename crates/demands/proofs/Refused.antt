@@ -10,10 +10,10 @@ use lib.ListN.{replicate}
 use Rattle.bits.specs.Bits.{bit, number, every, any, count}
 use Rattle.cubes.specs.Cubes.{cube-holds, cubes-share, some-cube, patterns-held, inputs-used}
 use Rattle.answers.specs.declared.Answer.{Answer}
-use Rattle.answers.specs.Answers.{accepted, refused, _then_, _or-else_, by, byte-fault, length-fault, buffer-after}
+use Rattle.answers.specs.Answers.{accepted, refused, _then_, _or-else_, by, byte-fault, length-fault, fits, buffer-after}
 use Rattle.rules.specs.Lists.{filter, some-in}
 use Rattle.records.specs.Records.{on-list, off-list, off-count, cube-code, clash-code, first-fault, header-bytes, header-fault, record-fault, both-read, reading, summing, bytes-at-fault, memory-at-fault}
-use Rattle.writer.specs.Writing.{record-bytes, few, sizes, cubes, fits, writing}
+use Rattle.writer.specs.Writing.{record-bytes, few, sizes, cubes, writing}
 use Rattle.wirings.specs.Wirings.{choices-from, served, read-at, disagree-at, agrees}
 use Rattle.wirings.specs.Pairs.{separates, dead, side, against}
 use Rattle.claims.specs.Reading.{_onward_, in-turn, read-tree}

@@ -1,5 +1,6 @@
 pub mod Joined
 pub mod Standing
+pub mod Steps
 pub mod Carrying
 pub mod Rows
 pub mod Settled

@@ -70,6 +70,10 @@ module _ (r : Wiring) (n : ℕ) (w : List ℕ) (s : StandsFor r n w) where
   unfolding partial
   stands-prefix = ap prefix (s .is) ∙ number-bytes w (placed-bytes n (s .few) w (s .allowed))
 
+  -- so that whatever is said of its n and its choices is said of n and w
+  pub stands-as : {A : Type 0} (said : ℕ → List ℕ → A) → said (r .n) (prefix r) ≡ said n w
+  stands-as said = ap₂ said stands-n stands-prefix
+
   pub stands-formed : Formed r
   stands-formed = subst₂ (StandsFor r) (sym stands-n) (sym stands-prefix) s
 

@@ -1,6 +1,6 @@
 -- What the partial wiring by value stands for: a number of inputs and the list of choice bytes placed so far. And what it
 -- answers, in terms of that list.
-use Prim.Native.Nat.{ℕ, zero, suc, _+_, _-_, _*_, _/_, _%_, _≤_}
+use Prim.Native.Nat.{ℕ, zero, suc, _+_, _-_, _*_, _/_, _%_, _≤_, _<_}
 use mathlib.Core.Path.{_≡_}
 use mathlib.Core.Bool.{Bool, true, false, cond, not, _&&_, _||_}
 use mathlib.Core.List.{List, [], _∷_, flatMap}
@@ -98,6 +98,12 @@ clears c P′ N′ = not (opposes c P′ N′ || any 8 (λ j. has (c .free) j &&
 unfoldable pub found : Option Pair → Found
 found none = record { found = false; s = 0; u = 0; v = 0 }
 found (some p) = record { found = true; s = p .0; u = p .1; v = p .2 }
+
+-- as in accepted records: two lists, and at most 64 cubes in each
+pub record Few (r : Found) : Type 0 where
+  pub list : r .s ≤ 1
+  pub first : r .u < 64
+  pub second : r .v < 64
 
 -- of a carried cube, cube u of list s, with a list m of g; and of a list l of f with it
 unfoldable pub row : Carried → List ℕ → ℕ → ℕ → Option Pair

@@ -1,5 +1,5 @@
 -- What the calls for tests return and leave in the lent slices.
-use Prim.Native.Nat.{ℕ, _+_, _*_, _%_, _^_, _≤_, _<_}
+use Prim.Native.Nat.{ℕ, _+_, _*_, _%_, _^_}
 use mathlib.Core.Path.{_≡_}
 use mathlib.Core.Bool.{cond}
 use mathlib.Core.List.{List, [], _∷_}
@@ -7,7 +7,7 @@ use lib.Dec.{leb, eqb}
 use lib.ListN.{length}
 use lib.Seq.{sets}
 use Rattle.answers.specs.declared.Answer.{Answer}
-use Rattle.answers.specs.Answers.{packed, is-sound}
+use Rattle.answers.specs.Answers.{packed, is-sound, buffer-after}
 use Rattle.records.specs.declared.Reading.{Reading}
 use Rattle.records.specs.declared.Figures.{Figures}
 use Rattle.records.specs.Records.{inputs, both-read}
@@ -19,6 +19,11 @@ use Rattle.partial.specs.Partial.{found}
 -- the answer as one number, its place taken modulo 2^40
 unfoldable pub packed-mod : Answer → ℕ
 packed-mod a = packed (record { code = a .code; kind = a .kind; «record» = a .«record»; place = a .place % 2 ^ 40 })
+
+-- a packed answer, and the lent buffer afterwards
+pub record Hands (answer : Answer) (bytes before after : List ℕ) (r : ℕ) : Type 0 where
+  pub returned : r ≡ packed-mod answer
+  pub buffer : after ≡ buffer-after answer bytes before
 
 -- the three numbers beside an answer
 abbrev pub counts-of : Reading → List ℕ
@@ -38,14 +43,9 @@ pub record Leaves (number : ℕ) (stored before after : List ℕ) (r : ℕ) : Ty
 
 -- ---- the first dead pair
 
--- a pair as a number, 1 for none; the cubes' places are below 64
+-- a pair as a number, 1 for none
 unfoldable pub pair-number : Found → ℕ
 pair-number r = cond (r .found) (2 + r .s + 256 * r .u + 65536 * r .v) 1
-
-pub record Few (r : Found) : Type 0 where
-  pub list : r .s ≤ 1
-  pub first : r .u < 64
-  pub second : r .v < 64
 
 -- 0 where the records or the choices are not accepted
 unfoldable pub dead-number : List ℕ → List ℕ → List ℕ → ℕ → ℕ

@@ -11,7 +11,7 @@ use native.Mathlib.Numerals.{add-one}
 use native.Mathlib.Omega.{arith}
 use borrow.Author.Tests.{ltb-true, leb-true, lt-ltb, le-leb, lt-leb, eq-eqb, ne-eqb, eqb-true, not-true}
 use lib.Dec.{leb, ltb, eqb}
-use lib.ListN.{length, drop, getD}
+use lib.ListN.{length, drop, getD, drop-of-length-le}
 use Rattle.bits.specs.Bits.{count}
 use Rattle.bits.proofs.Tests.{both, both-left, both-right, either, or-left, or-right, same-test, eqb-comm, below-or-not}
 use Rattle.bits.proofs.Below.{count-low, count-same, count-all, count-at, count-less}
@@ -108,6 +108,34 @@ choices-length j (suc k) = omega (arith, choices-length (suc j) k)
 -- and is a choice of n inputs
 pub choice-at-is : (n : ℕ) → n ≤ 16 → (c : ℕ) → c < 2 * n → is-choice n (choice-at c) ≡ true
 choice-at-is n small c h = ⊎-elim (λ (e : c % 2 < 1). choice-test n (choice-at c) (inl (omega arith))) (λ (e : 1 ≤ c % 2). choice-test n (choice-at c) (inr (omega arith))) (below-or-not (c % 2) 1)
+
+-- ---- offered: the choices from place k of the order on that may follow w
+
+module _ (n : ℕ) (w : List ℕ) where
+  unfoldable pub offered : ℕ → List ℕ
+  offered k = filter (free-choice w) (drop k (choices-from 0 n))
+
+  -- at first all that may follow
+  pub offered-all : offered 0 ≡ next (straight n) w
+  unfolding offered
+  offered-all = refl
+
+  module _ (k : ℕ) where
+    -- a choice that may not follow is passed over
+    pub offered-skip : k < 2 * n → free-choice w (choice-at k) ≡ false → offered k ≡ offered (k + 1)
+    unfolding offered filter
+    offered-skip h e = simp (choices-at n k h, e) refl
+
+    pub offered-take : k < 2 * n → free-choice w (choice-at k) ≡ true → offered k ≡ choice-at k ∷ offered (k + 1)
+    unfolding offered filter
+    offered-take h e = simp (choices-at n k h, e) refl
+
+    -- after the last there is none
+    pub offered-end : 2 * n ≤ k → offered k ≡ []
+    unfolding offered filter
+    offered-end h =
+        let past : length (choices-from 0 n) ≤ k = omega (arith, choices-length 0 n) in
+        simp (drop-of-length-le (choices-from 0 n) past) refl
 
 -- ---- used inputs
 

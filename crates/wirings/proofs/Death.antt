@@ -15,11 +15,12 @@ use Rattle.bits.proofs.Tests.{not-passed}
 use Rattle.rules.specs.Lists.{run, upto, some-in, each-in}
 use Rattle.rules.specs.Rules.{completions}
 use Rattle.rules.proofs.Lists.{In, in-map, map-in, in-flat, flat-in, some-at, some-if, some-same, each-at, each-some, first-exists, first-found, in-run, run-in, AfterNone, first-after}
-use Rattle.rules.proofs.Cut.{Reached, Death, whole-reached, reached-start}
+use Rattle.rules.proofs.Cut.{Reached, Death, whole-reached}
 use Rattle.records.specs.Records.{inputs, on-count, off-count, cubes-at, off-at, on-list, off-list, Accepted}
 use Rattle.records.proofs.Frame.{Framed, few-inputs}
-use Rattle.wirings.specs.Wirings.{straight, wirings, phase, choices, agrees, agreeing}
+use Rattle.wirings.specs.Wirings.{straight, is-wiring, wirings, phase, choices, agrees, agreeing}
 use Rattle.wirings.specs.Pairs.{separates, dead, cubes-in, side, against, Pair, cube-pairs, pairs, of-pair, first-dead}
+use Rattle.wirings.proofs.Wirings.{wiring-parts, in-wiring}
 use Rattle.wirings.proofs.Dead.{dead-exactly, dead-whole}
 use Rattle.wirings.proofs.Indexed.{of-side}
 use Rattle.wirings.proofs.Agreement.{agrees-separates}
@@ -82,6 +83,10 @@ module _ (n q : ℕ) (f g w : List ℕ) where
   unfolding first-dead
   first-dead-is p e = first-found (of-pair q f g (dead n w)) p (pairs q f g) e
 
+  pub found-dead : (p : Pair) → first-dead n q f g w ≡ some p → some-dead n q f g w ≡ true
+  unfolding some-dead
+  found-dead p e = let x = first-dead-is p e in some-if (of-pair q f g (dead n w)) p (pairs q f g) (x .0) (x .1)
+
   -- no pair before it is dead: the pairs are some that are not, then it, then others
   pub first-dead-after : (p : Pair) → first-dead n q f g w ≡ some p → AfterNone (of-pair q f g (dead n w)) p (pairs q f g)
   unfolding first-dead
@@ -94,14 +99,14 @@ module _ (n q : ℕ) (f g w : List ℕ) where
 
 -- ---- whole wirings
 
--- each wiring of the list is one
+-- each wiring of the list has all its choices
 pub wiring-reached : (n : ℕ) (v : List ℕ) → In v (wirings n) → Reached (straight n) n 0 (choices v)
-unfolding wirings
-wiring-reached n v i =
-    let x = flat-in (λ q. map (λ (w : List ℕ). q ∷ w) (completions (straight n) n [])) v (0 ∷ 1 ∷ []) i in
-    let y = map-in (λ (w : List ℕ). x .0 ∷ w) v (completions (straight n) n []) (x .2) in
-    subst (λ (u : List ℕ). Reached (straight n) n 0 (choices u)) (sym (y .2))
-    (whole-reached (straight n) n n [] (reached-start (straight n) n) (y .0) (y .1))
+unfolding is-wiring
+wiring-reached n v i = go v (in-wiring n v i)
+  where
+    go : (v : List ℕ) → is-wiring n v ≡ true → Reached (straight n) n 0 (choices v)
+    go [] e = absurd (false≢true e)
+    go (q ∷ w) e = let x = wiring-parts n q w e in record { total = omega arith; allowed = x .2 }
 
 -- ---- death, for accepted records
 

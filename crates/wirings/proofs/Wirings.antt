@@ -97,14 +97,14 @@ pub whole-in : (n q : ℕ) (w : List ℕ) → is-wiring n (q ∷ w) ≡ true →
 whole-in n q w e = let x = wiring-parts n q w e in subst (λ (k : ℕ). In w (completions (straight n) k [])) (x .1) (completion-in (straight n) [] w (x .2))
 
 -- the list has every wiring, and only wirings
-wiring-in : (n : ℕ) (v : List ℕ) → is-wiring n v ≡ true → In v (wirings n)
+pub wiring-in : (n : ℕ) (v : List ℕ) → is-wiring n v ≡ true → In v (wirings n)
 unfolding is-wiring wirings run
 wiring-in n [] e = absurd (false≢true e)
 wiring-in n (q ∷ w) e =
     in-flat (of-phase n) q (q ∷ w) (0 ∷ 1 ∷ []) (run-in q 0 2 (omega arith) (wiring-parts n q w e .0))
     (in-map (λ (w : List ℕ). q ∷ w) w (completions (straight n) n []) (whole-in n q w e))
 
-in-wiring : (n : ℕ) (v : List ℕ) → In v (wirings n) → is-wiring n v ≡ true
+pub in-wiring : (n : ℕ) (v : List ℕ) → In v (wirings n) → is-wiring n v ≡ true
 unfolding wirings run
 in-wiring n v i =
     let x = flat-in (of-phase n) v (0 ∷ 1 ∷ []) i in

@@ -7,15 +7,13 @@ use borrow.Author.Tests.{lt-ltb, le-ltb, ltb-false, ne-eqb, eqb-false}
 use native.Mathlib.Omega.{arith}
 use lib.Dec.{ltb, eqb}
 use lib.ListN.{length, length-append}
-use lib.Seq.{sets}
 use Rattle.answers.specs.declared.Answer.{Answer}
 use Rattle.cubes.proofs.Lists.{Each}
 use Rattle.records.specs.Records.{cube-code, clash-code}
 use Rattle.records.proofs.Cubes.{first-each, each-first}
 use Rattle.answers.specs.Answers.{fine, accepted, refused, sound}
 use Rattle.answers.proofs.Faults.{by-both, by-next}
-use Rattle.answers.proofs.Stores.{sets-join}
-use Rattle.writer.specs.Writing.{record-bytes, few, sizes, cubes, fits}
+use Rattle.writer.specs.Writing.{record-bytes, few, sizes, cubes}
 
 pub record Sized (n : ℕ) (on off : List ℕ) : Type 0 where
   pub least : 1 ≤ n
@@ -52,29 +50,6 @@ sizes-sound n on off e =
 pub record-long : (n : ℕ) (on off : List ℕ) → length (record-bytes n on off) ≡ 5 + length on + length off
 unfolding record-bytes
 record-long n on off = omega (arith, length-append on off)
-
-pub fits-short : (room needed : ℕ) → room < needed → fits room needed ≡ refused 18 4 needed
-unfolding fits
-fits-short room needed h = simp (lt-ltb _ _ h)
-
-pub fits-enough : (room needed : ℕ) → needed ≤ room → fits room needed ≡ accepted 3 needed
-unfolding fits
-fits-enough room needed h = simp (le-ltb _ _ h)
-
-pub fits-sound : (room needed : ℕ) → fits room needed .code ≡ 0 → needed ≤ room
-unfolding fits
-fits-sound room needed e = go (ltb room needed) refl e
-  where
-    go : (t : Bool) → ltb room needed ≡ t → cond t (refused 18 4 needed) (accepted 3 needed) .code ≡ 0 → needed ≤ room
-    go true q h = absurd (omega (arith, h))
-    go false q h = ltb-false _ _ q
-
--- header, on list and off list, stored one after the other
-pub stored : (l header on off : List ℕ) → length header ≡ 5 → sets (sets (sets l 0 header) 5 on) (5 + length on) off ≡ sets l 0 (header ++ (on ++ off))
-stored l header on off e =
-    sets-join (sets l 0 header) on off 5
-    ∙ ap (λ (k : ℕ). sets (sets l 0 header) k (on ++ off)) (omega (arith, e))
-    ∙ sets-join l header (on ++ off) 0
 
 pub sizes-good : (n : ℕ) (on off : List ℕ) → Sized n on off → sizes n on off ≡ fine
 unfolding sizes few

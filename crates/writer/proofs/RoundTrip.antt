@@ -9,15 +9,15 @@ use lib.Seq.{take-all, drop-drop, take-at, drop-at}
 use Rattle.cubes.proofs.Lists.{Each}
 use Rattle.answers.specs.declared.Answer.{Answer}
 use Rattle.answers.specs.declared.Fault.{Fault}
-use Rattle.answers.specs.Answers.{accepted, Delivered}
+use Rattle.answers.specs.Answers.{accepted, fits, Delivered}
 use Rattle.answers.proofs.Faults.{or-else-next, or-else-both}
-use Rattle.answers.proofs.Stores.{Stands, sets-stands, after-accepted}
+use Rattle.answers.proofs.Stores.{fits-enough, Stands, delivered-stands}
 use Rattle.records.specs.Records.{inputs, on-count, off-count, off-at, on-list, off-list, record-fault, cubes-fault, clash-fault, first-fault, cube-code, clash-code, reading, with-counts}
 use Rattle.records.proofs.Frame.{Framed, record-sound, record-good, reading-accepted}
 use Rattle.records.proofs.Cubes.{first-each, each-first}
 use Rattle.records.proofs.Meaning.{each-on, each-off}
-use Rattle.writer.specs.Writing.{record-bytes, cubes, fits, writing}
-use Rattle.writer.proofs.Laws.{Sized, sizes-good, sizes-sound, Right, cubes-good, cubes-right, fits-enough, fits-sound}
+use Rattle.writer.specs.Writing.{record-bytes, cubes, writing}
+use Rattle.writer.proofs.Laws.{Sized, sizes-good, sizes-sound, Right, cubes-good, cubes-right}
 
 -- ---- an accepted record, written again
 
@@ -81,8 +81,8 @@ module _ (s : List ℕ) (ok : record-fault s .code ≡ 0) where
   written-again room h =
       or-else-next _ _ (ap (λ a. a .code) (sizes-good _ _ _ lists-sized))
       ∙ or-else-next _ _ (ap (λ a. a .code) (cubes-good _ _ _ lists-right))
-      ∙ ap (λ (b : List ℕ). fits room (length b)) (bytes-again s (record-sound s ok .framed))
-      ∙ fits-enough room (length s) h
+      ∙ ap (λ (b : List ℕ). fits 3 room (length b)) (bytes-again s (record-sound s ok .framed))
+      ∙ fits-enough 3 room (length s) h
 
 -- ---- what was written, read again
 
@@ -155,15 +155,9 @@ written-read n on off room e =
 -- ---- what a caller finds in the buffer
 
 -- where the writer's contract allows an accepted answer, the record stands at the buffer's start
-pub delivered-stands : (n : ℕ) (on off before after : List ℕ) (r : Answer)
+pub written-stands : (n : ℕ) (on off before after : List ℕ) (r : Answer)
     → Delivered (writing n on off (length before)) (record-bytes n on off) before after r → r .code ≡ 0 → Stands (record-bytes n on off) before after (r .place)
 unfolding writing
-delivered-stands n on off before after r d e =
-    let z : writing n on off (length before) .code ≡ 0 = ap (λ (a : Answer). a .code) (sym (d .returned)) ∙ e in
-    let first = or-else-both _ _ z in
-    let second = or-else-both _ _ (first .1) in
-    let room = fits-sound (length before) (length (record-bytes n on off)) (second .1) in
-    let is = or-else-next _ _ (first .0) ∙ or-else-next _ _ (second .0) ∙ fits-enough _ _ room in
-    subst (λ (place : ℕ). Stands (record-bytes n on off) before after place) (ap (λ (a : Answer). a .place) (sym (d .returned ∙ is)))
-    (subst (λ (l : List ℕ). Stands (record-bytes n on off) before l (length (record-bytes n on off))) (sym (d .buffer ∙ after-accepted _ _ _ z))
-    (sets-stands (record-bytes n on off) before room))
+written-stands n on off before after r =
+    delivered-stands (writing n on off (length before)) 3 (record-bytes n on off) before after r
+    (λ z. let first = or-else-both _ _ z in or-else-next _ _ (first .0) ∙ or-else-next _ _ (or-else-both _ _ (first .1) .0))

@@ -6,7 +6,7 @@ use mathlib.Core.List.{List, _∷_, _++_}
 use lib.Dec.{ltb, eqb}
 use lib.ListN.{length}
 use Rattle.answers.specs.declared.Answer.{Answer}
-use Rattle.answers.specs.Answers.{accepted, fine, refused, by, _or-else_}
+use Rattle.answers.specs.Answers.{fine, refused, fits, by, _or-else_}
 use Rattle.records.specs.Records.{first-fault, cube-code, clash-code}
 
 -- the record's bytes, from n and the two lists of cube bytes
@@ -34,9 +34,6 @@ cubes n on off =
     (by 1 (first-fault (clash-code n off) on 0)
     fine))
 
--- room for the whole record, which comes last
-unfoldable pub fits : ℕ → ℕ → Answer
-fits room needed = cond (ltb room needed) (refused 18 4 needed) (accepted 3 needed)
-
+-- and last, room for the whole record
 unfoldable pub writing : ℕ → List ℕ → List ℕ → ℕ → Answer
-writing n on off room = sizes n on off or-else cubes n on off or-else fits room (length (record-bytes n on off))
+writing n on off room = sizes n on off or-else cubes n on off or-else fits 3 room (length (record-bytes n on off))

@@ -7,7 +7,8 @@ use borrow.Author.Needs.{needs}
 use borrow.Author.Tests.{not-true, not-false}
 use borrow.Fn.Kinds.{In}
 use borrow.Fn.PlainCycle.{Measures, is, falls, and}
-use Rattle.checker.proofs.Children.{tree-short, tree-closing, tree-deep, tree-split, depth-is, left-over, less-left, Reading, passed-over, child-read, child-refused, all-read}
+use Rattle.checker.proofs.Children.{tree-short, tree-closing, tree-deep, tree-split, Reading, passed-over, child-read, child-refused, all-read}
+use Rattle.partial.proofs.Steps.{depth-is, left-over, less-left}
 use Rattle.checker.proofs.tree.Reads as tree
 use Rattle.checker.proofs.tree.Kinds as tree-kinds
 use Rattle.checker.proofs.+tree.Lts-tree as tree-lts
@@ -58,14 +59,14 @@ pub +tree-spec : {M : Type 1} → statement M
     (λ c.
     let start = c .before .before .before .before .before .before .before .before in
     let a = start .args in
-    tree-deep _ _ _ _ _ _ _ (c .before .before .before .before .if1 .left) (c .before .before .if2 .left) (depth-is (a .w) (a .q) (a .f .now) (a .g .now) (a .claim .now) (start .pre .1 .0) ∙ c .if3 .taken))
+    tree-deep _ _ _ _ _ _ _ (c .before .before .before .before .if1 .left) (c .before .before .if2 .left) (depth-is (a .w) (start .pre .1 .0) ∙ c .if3 .taken))
     (λ c. omega arith)
     (λ c.
     let start = c .before .before .before .before .before .before .before .before in
     let a = start .args in
     record {
       within = omega arith;
-      rest = tree-split _ _ _ _ _ _ _ (c .before .before .before .before .if1 .left) (c .before .before .if2 .left) (left-over (a .w) (a .q) (a .f .now) (a .g .now) (a .claim .now) (start .pre .1 .0) (c .if3 .left));
+      rest = tree-split _ _ _ _ _ _ _ (c .before .before .before .before .if1 .left) (c .before .before .if2 .left) (left-over (a .w) (start .pre .1 .0) (c .if3 .left));
     })
     (λ c. omega (arith, c .before .before .before .before .before .before .before .before .before .before .pre .1 .0 .few))
     (λ c κs. search needs)
@@ -80,11 +81,9 @@ pub +tree-spec : {M : Type 1} → statement M
     let start = c .before .before .before .before .before .before .before .before .before .before .before .before .before .before in
     (start .pre .1 .0, sym (c .before .free .ensures) ∙ not-false _ (c .if5 .left)))
     (λ c κs.
-    let over = c .before .before .before .before .before .before .before in
-    let start = over .before .before .before .before .before .before .before .before in
+    let start = c .before .before .before .before .before .before .before .before .before .before .before .before .before .before .before in
     let a = start .args in
-    let more = left-over (a .w) (a .q) (a .f .now) (a .g .now) (a .claim .now) (start .pre .1 .0) (over .if3 .left) in
-    (omega (arith, start .pre .0, less-left (a .w) (a .q) (a .f .now) (a .g .now) (a .claim .now) (start .pre .1 .0) more _ _ (c .place .ensures .0)), (c .place .ensures .1, start .pre .1 .1)))
+    (omega (arith, start .pre .0, less-left (a .w) (start .pre .1 .0) _ _ (c .place .ensures .0)), (c .place .ensures .1, start .pre .1 .1)))
     (λ c.
     let test = c .before .before .before .before .before .before .before in
     child-refused _ _ _ _ _ (test .before .before .before .before .before .before .before .before .before .before .before .pre .1 .0) _ _ _ _

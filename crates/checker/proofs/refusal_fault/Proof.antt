@@ -1,6 +1,6 @@
 -- The header, the first tree, the second from where the first ends, and the length.
 use Prim.Native.Nat.{ℕ}
-use mathlib.Core.Path.{_≡_, ap₂, _∙_}
+use mathlib.Core.Path.{_≡_, _∙_}
 use mathlib.Core.List.{List, []}
 use borrow.Author.Needs.{needs}
 use native.Mathlib.Omega.{arith}
@@ -10,26 +10,24 @@ use Rattle.answers.specs.Answers.{length-fault}
 use Rattle.answers.proofs.Faults.{then-met, then-ends}
 use Rattle.records.specs.Records.{inputs}
 use Rattle.records.proofs.Frame.{few-inputs, framed-both}
-use Rattle.partial.specs.declared.Wiring.{Wiring}
-use Rattle.partial.specs.Partial.{StandsFor, prefix}
-use Rattle.partial.proofs.Standing.{stands-n, stands-prefix}
+use Rattle.partial.proofs.Standing.{stands-as}
 use Rattle.claims.specs.Reading.{_onward_}
 use Rattle.claims.proofs.Reading.{onward-met, onward-ends}
 use Rattle.checker.specs.Checking.{tree-fault, refusal-fault}
 use Rattle.checker.proofs.refusal_fault.Statement.{statement}
 use Rattle.checker.proofs.refusal_fault.Tie as tie
 
--- a tree read with the empty wiring is a tree from the start
-from-start : (n q : ℕ) (f g c : List ℕ) (at : ℕ) (r : Wiring) (t : Fault) → StandsFor r n [] → t ≡ tree-fault (r .n) q f g c (prefix r) at → t ≡ tree-fault n q f g c [] at
-from-start n q f g c at r t s e = e ∙ ap₂ (λ (m : ℕ) (w : List ℕ). tree-fault m q f g c w at) (stands-n r n [] s) (stands-prefix r n [] s)
-
 first : (c : tie.After-tree) → let a = c .before .before .before .before .before .before .before .before .before .args in
     c .tree .result ≡ tree-fault (inputs (a .g .now)) 0 (a .f .now) (a .g .now) (a .claim .now) [] 3
-first c = from-start _ 0 _ _ _ 3 _ _ (c .before .start .ensures .0) (c .tree .ensures)
+first c =
+    let a = c .before .before .before .before .before .before .before .before .before .args in
+    c .tree .ensures ∙ stands-as _ _ _ (c .before .start .ensures .0) (λ n w. tree-fault n 0 (a .f .now) (a .g .now) (a .claim .now) w 3)
 
 second : (c : tie.After-tree2) → let a = c .before .before .before .before .before .before .before .before .before .before .before .before .before .args in
     c .tree2 .result ≡ tree-fault (inputs (a .g .now)) 1 (a .f .now) (a .g .now) (a .claim .now) [] (c .before .before .before .before .tree .result .place)
-second c = from-start _ 1 _ _ _ _ _ _ (c .before .start2 .ensures .0) (c .tree2 .ensures)
+second c =
+    let a = c .before .before .before .before .before .before .before .before .before .before .before .before .before .args in
+    c .tree2 .ensures ∙ stands-as _ _ _ (c .before .start2 .ensures .0) (λ n w. tree-fault n 1 (a .f .now) (a .g .now) (a .claim .now) w (c .before .before .before .before .tree .result .place))
 
 returns : tie.Need-returns
 unfolding refusal-fault

@@ -10,12 +10,12 @@ use Rattle.answers.proofs.Faults.{sound-as, bad-as}
 use Rattle.records.specs.Records.{inputs, both-read, Accepted}
 use Rattle.wirings.specs.Pairs.{first-dead}
 use Rattle.records.proofs.Frame.{both-sound, framed-both, few-inputs}
-use Rattle.partial.specs.Partial.{StandsFor, found}
-use Rattle.partial.proofs.Standing.{stands-formed, stands-prefix, stands-n}
+use Rattle.partial.specs.Partial.{StandsFor, found, Few}
+use Rattle.partial.proofs.Standing.{stands-formed, stands-as}
+use Rattle.partial.proofs.Whole.{few-found}
 use Rattle.checker.specs.Checking.{choices-fault}
 use Rattle.checker.proofs.Making.{choices-sound, choices-all}
-use Rattle.probe.specs.Probe.{Few, pair-number, dead-number}
-use Rattle.probe.proofs.Few.{few-found}
+use Rattle.probe.specs.Probe.{pair-number, dead-number}
 use Rattle.probe.proofs.probe_dead.Statement.{statement}
 use Rattle.probe.proofs.probe_dead.Tie as tie
 
@@ -43,7 +43,7 @@ pair c =
     let a = c .before .before .before .before .before .before .before .before .before .before .before .args in
     let s = made (c .before) in
     c .first-dead .ensures
-    ∙ ap₂ (λ (n : ℕ) (w : List ℕ). found (first-dead n (a .q) (a .f .now) (a .g .now) w)) (stands-n _ _ _ s) (stands-prefix _ _ _ s)
+    ∙ stands-as _ _ _ s (λ n w. found (first-dead n (a .q) (a .f .now) (a .g .now) w))
 
 returns : tie.Need-returns
 unfolding dead-number
@@ -71,5 +71,5 @@ probe-dead-spec =
     (λ c κs. (few-inputs _ _ (ok (c .before)), omega arith))
     returns-2
     (λ c κs. let h = framed-both _ _ (ok (c .before .before .before .before)) in (stands-formed _ _ _ (made c), (h .0 .long, h .1 .long)))
-    (λ c κs. let h = framed-both _ _ (ok (c .before .before .before .before .before)) in subst Few (sym (pair c)) (few-found _ _ _ _ _ (h .0) (h .1)))
+    (λ c κs. subst Few (sym (pair c)) (few-found _ _ _ _ _ (ok (c .before .before .before .before .before))))
     returns-3)

@@ -6,7 +6,7 @@ use borrow.Author.Needs.{needs}
 use lib.ListN.{length}
 use lib.Seq.{sets}
 use Rattle.writer.specs.Writing.{record-bytes}
-use Rattle.writer.proofs.Laws.{stored}
+use Rattle.answers.proofs.Stores.{three-stored}
 use Rattle.writer.proofs.store.Statement.{statement}
 use Rattle.writer.proofs.store.Tie as tie
 
@@ -21,7 +21,7 @@ returns c =
     let off = a .off .now in
     third .put3 .ensures
     ∙ ap (λ (l : List ℕ). sets l (5 + length on) off) (second .put2 .ensures ∙ ap (λ (l : List ℕ). sets l 5 on) (first .put .ensures))
-    ∙ stored (a .out .now) (0x46 ∷ 0x4E ∷ a .n ∷ length on / 2 ∷ length off / 2 ∷ []) on off refl
+    ∙ three-stored (a .out .now) (0x46 ∷ 0x4E ∷ a .n ∷ length on / 2 ∷ length off / 2 ∷ []) on off 5 refl
 
 pub store-spec : {M : Type 1} → statement M
 store-spec =

@@ -1,15 +1,15 @@
 -- Refused by sizes, by cubes or for want of room, the buffer left alone; or stored.
 use Prim.Native.Nat.{ℕ, _+_}
-use mathlib.Core.Path.{_≡_, refl, _∙_, sym, ap}
+use mathlib.Core.Path.{_≡_, _∙_, sym, ap}
 use borrow.Author.Needs.{needs}
-use borrow.Author.Tests.{eqb-false}
 use native.Mathlib.Omega.{arith}
 use lib.ListN.{length}
 use Rattle.answers.specs.declared.Answer.{Answer}
+use Rattle.answers.specs.Answers.{fits}
 use Rattle.answers.proofs.Faults.{or-else-next, or-else-stop}
-use Rattle.answers.proofs.Stores.{delivered-refusal, delivered-bytes}
-use Rattle.writer.specs.Writing.{sizes, fits, writing}
-use Rattle.writer.proofs.Laws.{Sized, sizes-sound, record-long, fits-short, fits-enough}
+use Rattle.answers.proofs.Stores.{delivered-refusal, delivered-short, delivered-whole}
+use Rattle.writer.specs.Writing.{sizes, writing}
+use Rattle.writer.proofs.Laws.{Sized, sizes-sound, record-long}
 use Rattle.writer.proofs.write.Statement.{statement}
 use Rattle.writer.proofs.write.Tie as tie
 
@@ -27,13 +27,13 @@ right c = sizes-sound _ _ _ (sized c)
 by-room : (c : tie.Else2)
     → let a = c .before .before .before .before .before .before .before .before .before .args in
     let needed = 5 + length (a .on .now) + length (a .off .now) in
-    (room : ℕ) → writing (a .n) (a .on .now) (a .off .now) room ≡ fits room needed
+    (room : ℕ) → writing (a .n) (a .on .now) (a .off .now) room ≡ fits 3 room needed
 unfolding writing
 by-room c room =
     let a = c .before .before .before .before .before .before .before .before .before .args in
     or-else-next _ _ (sized (c .before .before .before))
     ∙ or-else-next _ _ (ap code (sym (c .before .before .check-cubes .ensures)) ∙ c .if2 .left)
-    ∙ ap (fits room) (record-long (a .n) (a .on .now) (a .off .now))
+    ∙ ap (fits 3 room) (record-long (a .n) (a .on .now) (a .off .now))
 
 returns : tie.Need-returns
 unfolding writing
@@ -49,16 +49,13 @@ returns-2 c =
     (e ∙ sym (or-else-next _ _ (sized (c .before .before .before)) ∙ or-else-stop _ _ (λ z. c .if2 .taken (ap code e ∙ z)))) (c .if2 .taken)
 
 returns-3 : tie.Need-returns-3
-returns-3 c =
-    let e = c .refused .ensures in
-    delivered-refusal _ _ _ _ (e ∙ sym (by-room (c .before .before) _ ∙ fits-short _ _ (c .before .if3 .taken))) (λ z. eqb-false 18 0 refl (sym (ap code e) ∙ z))
+returns-3 c = delivered-short _ 3 _ _ _ (by-room (c .before .before) _) _ (c .before .if3 .taken) (c .refused .ensures)
 
 returns-4 : tie.Need-returns-4
 returns-4 c =
-    let e = c .accepted .ensures in
     let called = c .before .before .before in
-    let e₃ = called .before .before in
-    delivered-bytes _ _ _ _ _ (e ∙ sym (by-room (e₃ .before) _ ∙ fits-enough _ _ (e₃ .if3 .left))) (ap code e) (called .store .ensures)
+    let room = called .before .before in
+    delivered-whole _ 3 _ _ _ (by-room (room .before) _) _ (room .if3 .left) (c .accepted .ensures) _ (called .store .ensures)
 
 pub write-spec : {M : Type 1} → statement M
 write-spec =

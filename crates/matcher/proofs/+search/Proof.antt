@@ -1,0 +1,112 @@
+-- Each call has one input less to be placed; the loop goes through the choices, and what the choices still offered give, with the
+-- length so far, is the whole answer.
+use Prim.Native.Nat.{ℕ, _-_, _*_, _<_}
+use mathlib.Core.Path.{_≡_, sym, ap, _∙_}
+use mathlib.Core.Bool.{true, false}
+use native.Mathlib.Omega.{arith}
+use borrow.Author.Needs.{needs}
+use borrow.Author.Tests.{not-true, not-false}
+use borrow.Fn.Kinds.{In}
+use borrow.Fn.PlainCycle.{Measures, is, falls, and}
+use Rattle.records.proofs.Frame.{framed-both}
+use Rattle.partial.proofs.Steps.{less-left}
+use Rattle.partial.proofs.Standing.{stands-n}
+use Rattle.matcher.proofs.Nodes.{death-at, Searching, searched-dead, searched-whole, searching-start, search-skips, child-found, child-none, sum-fits, searched-all}
+use Rattle.matcher.proofs.search.Reads as reads
+use Rattle.matcher.proofs.search.Kinds as kinds
+use Rattle.matcher.proofs.+search.Lts-search as lts
+use Rattle.partial.proofs.Wiring.first_dead.Reads as first-dead
+use Rattle.partial.proofs.Wiring.free.Reads as free
+use Rattle.partial.proofs.Wiring.place.Reads as place
+use Rattle.partial.proofs.choice.Reads as choice
+use Rattle.matcher.proofs.+search.{statement}
+use Rattle.matcher.proofs.+search.Tie.{close}
+
+-- the inputs that are unplaced
+abbrev μ : Measures 2 kinds.ps ℕ
+μ κs a = a .0 .n - a .0 .depth
+
+abbrev search-at : ℕ → In 2 kinds.ps
+search-at t = and 2 kinds.ps (is 2 kinds.ps μ t) reads.Pre
+
+abbrev search-below : ℕ → In 2 kinds.ps
+search-below t = and 2 kinds.ps (falls 2 kinds.ps _<_ μ t) reads.Pre
+
+abbrev Inv-loop : lts.InvT-loop
+Inv-loop w q f g length₀ c₀ length c = Searching w q f g c length
+
+abbrev μ-loop : lts.MeasureT-loop
+μ-loop w q f g length₀ c₀ length c = 2 * w .n - c
+
+pub +search-spec : {M : Type 1} → statement M
++search-spec = close μ λ t. lts.spec (
+  first-dead.Asked,
+  first-dead.Learnt,
+  choice.Asked,
+  choice.Learnt,
+  free.Asked,
+  free.Learnt,
+  place.Asked,
+  place.Learnt,
+  search-below t,
+  reads.Post,
+)
+    (search-at t)
+    reads.Post
+    Inv-loop
+    μ-loop
+    (λ c κs.
+    let h = c .before .before .pre .1 in
+    let framed = framed-both _ _ (h .1 .1) in
+    (h .0, (framed .0 .long, framed .1 .long)))
+    (λ c.
+    let h = c .before .before .before .before .pre .1 in
+    searched-dead _ _ _ _ (h .0) (death-at _ _ _ _ (h .1 .0) (h .1 .1)) (ap (λ x. x .found) (sym (c .before .first-dead .ensures)) ∙ c .if1 .taken))
+    (λ c.
+    let h = c .before .before .before .before .before .before .pre .1 in
+    searched-whole _ _ _ _ (h .0) (death-at _ _ _ _ (h .1 .0) (h .1 .1)) (ap (λ x. x .found) (sym (c .before .before .before .first-dead .ensures)) ∙ c .before .before .if1 .left) (c .if2 .taken))
+    (λ c.
+    let h = c .before .before .before .before .before .before .pre .1 in
+    searching-start _ _ _ _ (h .0) (ap (λ x. x .found) (sym (c .before .before .before .first-dead .ensures)) ∙ c .before .before .if1 .left) (c .if2 .left))
+    (λ c. omega (arith, c .before .before .before .before .before .before .before .before .pre .1 .0 .few))
+    (λ c κs. search needs)
+    (λ c. omega (arith, c .before .before .before .before .before .before .before .before .before .before .pre .1 .0 .few))
+    (λ c κs. c .before .before .before .before .before .before .before .before .before .before .pre .1 .0)
+    (λ c. omega arith)
+    (λ c.
+    let test = c .before .before .before in
+    let loop = test .before .before in
+    search-skips _ _ _ _ (loop .before .before .before .before .before .before .before .pre .1 .0) _ _ (test .if3 .taken) (c .before .before .choice .ensures)
+    (sym (c .before .free .ensures) ∙ not-true _ (c .if4 .taken)) _ (loop .loop .inv))
+    (λ c κs.
+    let start = c .before .before .before .before .before .before .before .before .before .before .before .before in
+    (start .pre .1 .0, sym (c .before .free .ensures) ∙ not-false _ (c .if4 .left)))
+    (λ c κs.
+    let start = c .before .before .before .before .before .before .before .before .before .before .before .before .before in
+    let h = start .pre .1 in
+    let placed = c .place .ensures .0 in
+    (omega (arith, start .pre .0, less-left (start .args .w) (h .0) _ _ placed), (c .place .ensures .1, (stands-n _ _ _ placed ∙ h .1 .0, h .1 .1))))
+    (λ c.
+    let test = c .before .before .before .before .before .before in
+    let loop = test .before .before in
+    child-found _ _ _ _ (loop .before .before .before .before .before .before .before .pre .1 .0) _ _ (test .if3 .taken) (c .before .before .before .before .before .choice .ensures)
+    (sym (c .before .before .before .before .free .ensures) ∙ not-false _ (c .before .before .before .if4 .left)) _ (c .before .before .place .ensures .0) _ (loop .loop .inv) _
+    (c .before .search .ensures) (c .if5 .taken))
+    (λ c.
+    let test = c .before .before .before .before .before .before .before in
+    let loop = test .before .before in
+    record {
+      fits = sum-fits _ _ _ _ (loop .before .before .before .before .before .before .before .pre .1 .0) _ _ (test .if3 .taken) (c .before .before .before .before .before .before .choice .ensures)
+          (sym (c .before .before .before .before .before .free .ensures) ∙ not-false _ (c .before .before .before .before .if4 .left)) _ (c .before .before .before .place .ensures .0) _ (loop .loop .inv) _
+          (c .before .before .search .ensures) (c .before .if5 .left);
+    })
+    (λ c. omega arith)
+    (λ c.
+    let test = c .before .before .before .before .before .before .before in
+    let loop = test .before .before in
+    child-none _ _ _ _ (loop .before .before .before .before .before .before .before .pre .1 .0) _ _ (test .if3 .taken) (c .before .before .before .before .before .before .choice .ensures)
+    (sym (c .before .before .before .before .before .free .ensures) ∙ not-false _ (c .before .before .before .before .if4 .left)) _ (c .before .before .before .place .ensures .0) _ (loop .loop .inv) _
+    (c .before .before .search .ensures) (c .before .if5 .left))
+    (λ c.
+    let loop = c .before .before in
+    searched-all _ _ _ _ (loop .before .before .before .before .before .before .before .pre .1 .0) _ (c .if3 .left) _ (loop .loop .inv))

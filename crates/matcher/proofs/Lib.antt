@@ -1,0 +1,4 @@
+pub mod Nodes
+pub mod Exact
+pub mod Searches
+pub mod Settled

@@ -1,0 +1,14 @@
+-- The answer is packed, and the buffer is as the call leaves it.
+use mathlib.Core.Path.{_∙_, ap}
+use borrow.Author.Needs.{needs}
+use Rattle.probe.specs.Probe.{packed-mod}
+use Rattle.probe.proofs.probe_match.Statement.{statement}
+use Rattle.probe.proofs.probe_match.Tie as tie
+
+returns : tie.Need-returns
+returns c =
+    let e = c .before .before .before .find .ensures in
+    record { returned = c .packed-mod .ensures ∙ ap packed-mod (e .returned); buffer = e .buffer }
+
+pub probe-match-spec : {M : Type 1} → statement M
+probe-match-spec = tie.close (tie.spec (λ c κs. search needs) (λ c κs. search needs) (λ c. search needs) returns)
