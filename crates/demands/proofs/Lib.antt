@@ -3,3 +3,4 @@ pub mod Records
 pub mod Refused
 pub mod Wirings
 pub mod Claims
+pub mod Matcher

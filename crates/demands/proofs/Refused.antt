@@ -1,26 +1,32 @@
 -- Wrong versions that the contracts rule out, each at a case: whatever outcome the contract allows there is the right one.
 use Prim.Native.Nat.{ℕ, _+_}
 use mathlib.Core.Path.{_≡_, refl, ap, _∙_}
-use mathlib.Core.List.{List, [], _∷_, _++_}
+use mathlib.Core.List.{List, [], _∷_, _++_, flatMap}
 use contract.Lifetimes.{Lfts}
 use borrow.Fn.Kinds.{Dens, resT, endedOf}
 use denote.Ref.{at-last}
 use denote.Triple.Clauses.{AtExit}
-use lib.ListN.{replicate}
+use lib.ListN.{length, replicate}
 use Rattle.bits.specs.Bits.{bit, number, every, any, count}
 use Rattle.cubes.specs.Cubes.{cube-holds, cubes-share, some-cube, patterns-held, inputs-used}
 use Rattle.answers.specs.declared.Answer.{Answer}
 use Rattle.answers.specs.Answers.{accepted, refused, _then_, _or-else_, by, byte-fault, length-fault, fits, buffer-after}
-use Rattle.rules.specs.Lists.{filter, some-in}
+use Rattle.rules.specs.Lists.{run, filter, first, some-in}
+use Rattle.rules.specs.Rules.{completions}
 use Rattle.records.specs.Records.{on-list, off-list, off-count, cube-code, clash-code, first-fault, header-bytes, header-fault, record-fault, both-read, reading, summing, bytes-at-fault, memory-at-fault}
 use Rattle.writer.specs.Writing.{record-bytes, few, sizes, cubes, writing}
-use Rattle.wirings.specs.Wirings.{choices-from, served, read-at, disagree-at, agrees}
-use Rattle.wirings.specs.Pairs.{separates, dead, side, against}
+use Rattle.wirings.specs.Wirings.{choices-from, served, read-at, disagree-at, agrees, wirings}
+use Rattle.wirings.specs.Pairs.{separates, dead, side, against, pairs, first-dead}
+use Rattle.claims.specs.Trees.{tree-bytes, trees-bytes, closed-by, tree-each, own}
+use Rattle.claims.specs.Claims.{own-tree}
 use Rattle.claims.specs.Reading.{_onward_, in-turn, read-tree}
 use Rattle.checker.specs.Checking.{header-fault as claim-header, choice-code, choices-fault, match-fault, index-fault, closing-fault, tree-fault, refusal-fault, claim-fault, kind-of, checking}
-use Rattle.demands.proofs.Table.{Conj, Odd, Const, Wire, Const-Wire, one-input, Row, check-of, AllRight}
+use Rattle.matcher.specs.Matching.{first-agreeing, claim-of, kind-found, claim-for, matching}
+use Rattle.demands.proofs.Table.{Conj, Disj, Odd, Const, Wire, Conj-Disj, Const-Wire, one-input, Row, check-of, match-of, AllRight}
 use Rattle.checker.proofs.check.Kinds as check-kinds
 use Rattle.checker.proofs.check.Reads as check
+use Rattle.matcher.proofs.find.Kinds as find-kinds
+use Rattle.matcher.proofs.find.Reads as find
 use Rattle.records.proofs.read.Kinds as read-kinds
 use Rattle.records.proofs.read.Reads as read
 use Rattle.records.proofs.summary.Kinds as summary-kinds
@@ -86,6 +92,39 @@ wrong-checkers =
 pub wrong-checkers-ruled-out : AllRight wrong-checkers
 unfolding bit number every any count cube-holds cubes-share some-cube _then_ by _or-else_ byte-fault length-fault filter some-in on-list off-list cube-code clash-code first-fault header-bytes header-fault record-fault both-read choices-from served read-at disagree-at agrees separates dead side against _onward_ in-turn read-tree claim-header choice-code choices-fault match-fault index-fault closing-fault tree-fault refusal-fault claim-fault kind-of checking
 wrong-checkers-ruled-out = (refl, (refl, (refl, (refl, (refl, (refl, (refl, (refl, tt))))))))
+
+-- ---- the matcher: the answer at each of these cases is settled, and so is the buffer afterwards
+
+pub matcher-answers : (κs : Lfts 3) (a : Dens κs find-kinds.ps) (f g before after : List ℕ) (answer : Answer)
+    → (matching f g (length before) ≡ answer) × (buffer-after answer (claim-for f g) before ≡ after)
+    → (r : resT find-kinds.r κs .Denot) (s : AtExit (endedOf 3 find-kinds.ps find-kinds.r) κs)
+    → find.Post κs (at-last (a .0) f, (at-last (a .1 .0) g, (at-last (a .1 .1 .0) before, tt))) r s → (r ≡ answer) × (s .1 .1 .0 .now ≡ after)
+matcher-answers κs a f g before after answer e r s p =
+    (p .returned ∙ e .0, p .buffer ∙ ap (λ (x : Answer). buffer-after x (claim-for f g) before) (e .0) ∙ e .1)
+
+-- x2·x0′ or not x2, and y0·y1′ or not y0: input 0 goes to 0, 1 to 2 and 2 to 1; the other way round the bytes would be 10 12 01
+abbrev F-round : List ℕ
+F-round = 0x46 ∷ 0x4E ∷ 0x03 ∷ 0x01 ∷ 0x01 ∷ 0x04 ∷ 0x01 ∷ 0x00 ∷ 0x04 ∷ []
+
+abbrev G-round : List ℕ
+G-round = 0x46 ∷ 0x4E ∷ 0x03 ∷ 0x01 ∷ 0x01 ∷ 0x01 ∷ 0x02 ∷ 0x00 ∷ 0x01 ∷ []
+
+-- besides the table's own rows (Conj to Disj: not the straight wiring, not a buffer left untouched, not a byte past the claim's end;
+-- Open to Wire: not open read as off, not the last agreeing wiring), in this order: 18 given when the buffer is exactly long enough,
+-- and not given when it is a byte too short, or the buffer written all the same; on tested against off with q = 1; j applied the
+-- wrong way round; a tree closed with another dead pair than the first: both off cubes of Conj make one with the constant's cube
+abbrev pub wrong-matchers : List Row
+wrong-matchers =
+    match-of Conj Disj (replicate 6 0xEE) (accepted 1 6) Conj-Disj
+    ∷ match-of Conj Disj (replicate 5 0xEE) (refused 18 4 6) (replicate 5 0xEE)
+    ∷ match-of Wire Const (replicate 9 0xEE) (accepted 2 9) (0x52 ∷ 0x46 ∷ 0x01 ∷ 0x01 ∷ 0x00 ∷ 0x00 ∷ 0x00 ∷ 0x00 ∷ 0x00 ∷ [])
+    ∷ match-of F-round G-round (replicate 7 0xEE) (accepted 1 7) (0x4D ∷ 0x54 ∷ 0x03 ∷ 0x00 ∷ 0x10 ∷ 0x02 ∷ 0x11 ∷ [])
+    ∷ match-of Const-2 Conj (replicate 9 0xEE) (accepted 2 9) (0x52 ∷ 0x46 ∷ 0x02 ∷ 0x00 ∷ 0x00 ∷ 0x00 ∷ 0x00 ∷ 0x00 ∷ 0x00 ∷ [])
+    ∷ []
+
+pub wrong-matchers-ruled-out : AllRight wrong-matchers
+unfolding flatMap bit number every any count cube-holds cubes-share some-cube _then_ by _or-else_ byte-fault length-fault fits buffer-after run filter first some-in completions on-list off-list cube-code clash-code first-fault header-bytes header-fault record-fault both-read choices-from served read-at disagree-at agrees wirings separates dead side against pairs first-dead tree-bytes trees-bytes closed-by tree-each own own-tree first-agreeing claim-of kind-found matching
+wrong-matchers-ruled-out = ((refl, refl), ((refl, refl), ((refl, refl), ((refl, refl), ((refl, refl), tt)))))
 
 -- ---- the bytes at fault
 

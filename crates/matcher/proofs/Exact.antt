@@ -26,7 +26,7 @@ use Rattle.claims.specs.Trees.{tree-bytes, longest-tree}
 use Rattle.claims.specs.Claims.{IsMatch, IsRefusal, own-tree}
 use Rattle.claims.proofs.Refusals.{match-length, longest-most}
 use Rattle.claims.proofs.Own.{own-right-for, own-most}
-use Rattle.matcher.specs.Matching.{first-agreeing, claim-of, kind-of, claim-for, matching}
+use Rattle.matcher.specs.Matching.{first-agreeing, claim-of, kind-found, claim-for, matching}
 
 module _ (f g : List ℕ) where
   -- ---- the first agreeing wiring
@@ -86,24 +86,24 @@ module _ (f g : List ℕ) where
 -- ---- the whole answer
 
 -- a match is of kind 1, a refusal of kind 2
-pub kind-match : (o : Option (List ℕ)) → kind-of o ≡ 1 → (v : List ℕ) × (o ≡ some v)
-unfolding kind-of
+pub kind-match : (o : Option (List ℕ)) → kind-found o ≡ 1 → (v : List ℕ) × (o ≡ some v)
+unfolding kind-found
 kind-match (some v) e = (v, refl)
 kind-match none e = absurd (omega (arith, e))
 
-pub kind-refusal : (o : Option (List ℕ)) → kind-of o ≡ 2 → o ≡ none
-unfolding kind-of
+pub kind-refusal : (o : Option (List ℕ)) → kind-found o ≡ 2 → o ≡ none
+unfolding kind-found
 kind-refusal (some v) e = absurd (omega (arith, e))
 kind-refusal none e = refl
 
-pub kind-either : (o : Option (List ℕ)) → (kind-of o ≡ 1) ⊎ (kind-of o ≡ 2)
-unfolding kind-of
+pub kind-either : (o : Option (List ℕ)) → (kind-found o ≡ 1) ⊎ (kind-found o ≡ 2)
+unfolding kind-found
 kind-either (some v) = inl refl
 kind-either none = inr refl
 
 module _ (f g : List ℕ) (room : ℕ) where
   -- where both functions are read, room is all that is asked for
-  pub matching-room : both-read f g .code ≡ 0 → matching f g room ≡ fits (kind-of (first-agreeing f g)) room (length (claim-for f g))
+  pub matching-room : both-read f g .code ≡ 0 → matching f g room ≡ fits (kind-found (first-agreeing f g)) room (length (claim-for f g))
   unfolding matching
   matching-room = or-else-next _ _
 

@@ -27,7 +27,7 @@ use Rattle.partial.proofs.Joined.{number-bytes}
 use Rattle.partial.proofs.Standing.{stands-as, placed-bytes}
 use Rattle.claims.specs.Claims.{match-claim}
 use Rattle.matcher.specs.declared.Outcome.{Outcome}
-use Rattle.matcher.specs.Matching.{first-agreeing, own-refusal, claim-of, kind-of, claim-for, matching, first-from, searched}
+use Rattle.matcher.specs.Matching.{first-agreeing, own-refusal, claim-of, kind-found, claim-for, matching, first-from, searched}
 use Rattle.matcher.proofs.Nodes.{node-bytes, node-most, came-some, came-none}
 use Rattle.matcher.proofs.Exact.{matching-room}
 
@@ -110,15 +110,15 @@ module _ (f g : List ℕ) where
   module _ (ok : Accepted f g) (before after : List ℕ) (r : Answer) where
     -- where both functions are read, room for the claim is all that is asked for
     of-claim : (o : Option (List ℕ)) → first-agreeing f g ≡ o
-        → Delivered (fits (kind-of o) (length before) (length (claim-of f g o))) (claim-of f g o) before after r → Delivered (matching f g (length before)) (claim-for f g) before after r
+        → Delivered (fits (kind-found o) (length before) (length (claim-of f g o))) (claim-of f g o) before after r → Delivered (matching f g (length before)) (claim-for f g) before after r
     of-claim o e d =
         subst₂ (λ (a : Answer) (c : List ℕ). Delivered a c before after r)
-        (ap (λ (o : Option (List ℕ)). fits (kind-of o) (length before) (length (claim-of f g o))) (sym e) ∙ sym (matching-room f g (length before) (both-good f g ok))) (ap (claim-of f g) (sym e)) d
+        (ap (λ (o : Option (List ℕ)). fits (kind-found o) (length before) (length (claim-of f g o))) (sym e) ∙ sym (matching-room f g (length before) (both-good f g ok))) (ap (claim-of f g) (sym e)) d
 
     -- a search that comes to choices: a match
     pub match-delivered : (q : ℕ) (o : Outcome) → Comes n q f g o → o .found ≡ true → ((w : List ℕ) → first-from n q f g [] ≡ some w → first-agreeing f g ≡ some (q ∷ w))
         → Delivered (fits 1 (length before) (4 + n)) (match-claim n (q ∷ as-bytes n (o .choices))) before after r → Delivered (matching f g (length before)) (claim-for f g) before after r
-    unfolding claim-of kind-of
+    unfolding claim-of kind-found
     match-delivered q o comes found chosen d =
         let x = came-some _ _ o comes found in
         let bytes : as-bytes n (o .choices) ≡ x .0 = ap (as-bytes n) (x .2) ∙ found-bytes n q f g (few-inputs f g ok) (x .0) (x .1) in
@@ -133,7 +133,7 @@ module _ (f g : List ℕ) where
 
     pub refusal-delivered : Accepted f g → (before after : List ℕ) (r : Answer)
         → Delivered (fits 2 (length before) (length (own-refusal f g))) (own-refusal f g) before after r → Delivered (matching f g (length before)) (claim-for f g) before after r
-    unfolding claim-of kind-of
+    unfolding claim-of kind-found
     refusal-delivered ok before after r =
         of-claim ok before after r none
         (first-turned (came-none _ _ plain none₀ no₀ .0) ∙ ap (Option·map (λ (w : List ℕ). 1 ∷ w)) (came-none _ _ turned none₁ no₁ .0))

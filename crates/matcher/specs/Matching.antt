@@ -30,9 +30,9 @@ unfoldable pub claim-of : List ℕ → List ℕ → Option (List ℕ) → List �
 claim-of f g (some v) = match-claim (inputs g) v
 claim-of f g none = own-refusal f g
 
-unfoldable pub kind-of : Option (List ℕ) → ℕ
-kind-of (some v) = 1
-kind-of none = 2
+unfoldable pub kind-found : Option (List ℕ) → ℕ
+kind-found (some v) = 1
+kind-found none = 2
 
 -- the claim for f and g
 abbrev pub claim-for : List ℕ → List ℕ → List ℕ
@@ -40,7 +40,7 @@ claim-for f g = claim-of f g (first-agreeing f g)
 
 -- both functions, then room for the claim
 unfoldable pub matching : List ℕ → List ℕ → ℕ → Answer
-matching f g room = both-read f g or-else fits (kind-of (first-agreeing f g)) room (length (claim-for f g))
+matching f g room = both-read f g or-else fits (kind-found (first-agreeing f g)) room (length (claim-for f g))
 
 -- ---- what the functions inside answer
 
