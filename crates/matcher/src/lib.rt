@@ -122,7 +122,7 @@ fn write_refusal(f: &[u8], g: &[u8], needed: usize, out: &mut [u8]) -> Answer
     requires { ⌜ needed ≡ length (own-refusal (now f) (now g)) ⌝ }
     ensures { λ r. ⌜ Delivered (fits 2 (length (now (out .entry))) (length (own-refusal (now (f .entry)) (now (g .entry))))) (own-refusal (now (f .entry)) (now (g .entry))) (now (out .entry)) (now (out .exit)) r ⌝ }
 {
-    if out.len() < needed {
+    if needed > out.len() {
         return answers::refused(18, 4, needed);
     }
     let n = g[2];
