@@ -1,19 +1,16 @@
 -- The tree at a place, case by case, and the trees of a split, choice by choice. The idea: what is left to be read of a split's
 -- trees, from choice k of the order on, is the whole answer.
 use Prim.Native.Nat.{ℕ, zero, suc, _+_, _-_, _*_, _≤_, _<_}
-use mathlib.Core.Path.{_≡_, refl, sym, ap, ap₂, _∙_, fun-ext}
-use mathlib.Core.Bool.{Bool, true, false, _&&_}
+use mathlib.Core.Path.{_≡_, sym, ap, _∙_, fun-ext}
+use mathlib.Core.Bool.{true, false}
 use mathlib.Core.List.{List, [], _∷_}
-use mathlib.Core.Logic.{⊎-elim}
-use native.Mathlib.Nat.{eq-or-lt-of-le}
 use native.Mathlib.Omega.{arith}
 use borrow.Author.Tests.{le-leb, lt-leb, eq-eqb, ne-eqb}
-use lib.ListN.{length, getD, drop, length-append, drop-of-length-le}
+use lib.ListN.{length, getD, length-append}
 use Rattle.answers.specs.declared.Fault.{Fault}
 use Rattle.answers.specs.Answers.{fault}
-use Rattle.rules.specs.Lists.{filter}
 use Rattle.rules.specs.Rules.{_adding_, next}
-use Rattle.wirings.specs.Wirings.{straight, choices-from, choice-at, free-choice}
+use Rattle.wirings.specs.Wirings.{straight, choice-at}
 use Rattle.wirings.proofs.Choices.{offered, offered-end}
 use Rattle.partial.specs.declared.Wiring.{Wiring}
 use Rattle.partial.specs.Partial.{StandsFor, Formed, prefix, may-place}

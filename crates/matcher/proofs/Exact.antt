@@ -1,7 +1,7 @@
 -- What the matcher's claim says. The idea: the wiring that is claimed is the first of the list that agrees; and where none agrees, the
 -- matcher's own two trees are right, so that the claim is a refusal by the rules. Either is no longer than the longest refusal.
 use Prim.Native.Nat.{ℕ, _≤_, _<_}
-use mathlib.Core.Path.{_≡_, refl, ap, _∙_}
+use mathlib.Core.Path.{_≡_, refl, ap}
 use mathlib.Core.Bool.{true, false}
 use mathlib.Core.List.{List, [], _∷_}
 use mathlib.Core.Option.{Option, none, some}

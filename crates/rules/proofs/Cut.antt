@@ -1,10 +1,10 @@
 -- Cutting off. The idea: a test of death is true only of choices from which no completion passes, and is true of whole ways
 -- that do not pass. A walk that drops dead choices then finds exactly what passes, in the same order.
 use Prim.Native.Nat.{ℕ, zero, suc, _+_}
-use mathlib.Core.Path.{_≡_, refl, sym, ap, _∙_, fun-ext}
+use mathlib.Core.Path.{_≡_, refl, sym, ap, _∙_}
 use mathlib.Core.Bool.{Bool, true, false, cond, true≢false}
 use mathlib.Core.List.{List, [], _∷_, flatMap}
-use mathlib.Core.Option.{Option, none, some}
+use mathlib.Core.Option.{none}
 use mathlib.Core.Logic.{⊎-elim}
 use native.Mathlib.Nat.{add-zero}
 use native.Mathlib.Omega.{arith}
@@ -12,34 +12,16 @@ use lib.ListN.{length, length-append}
 use Rattle.bits.proofs.Tests.{both, decide}
 use Rattle.rules.specs.Lists.{filter, first}
 use Rattle.rules.specs.Rules.{Rule, next, completions, follows, _adding_}
-use Rattle.rules.proofs.Lists.{In, flat-same, filter-none, filter-flat, first-of, first-none, first-flat, first-filter}
+use Rattle.rules.proofs.Lists.{In, flat-same, filter-none, filter-flat, first-none}
 use Rattle.rules.proofs.Completions.{next-may, follows-append, completion-extends, completions-length}
 
--- ---- the walk, under a rule, past what is dead
+-- ---- the walk, under a rule, past what is dead: every whole way met
 
 module _ (R : Rule) (dead : List ℕ → Bool) where
-  -- the first whole way met
-  unfoldable pub hunt : ℕ → List ℕ → Option (List ℕ)
-  hunt zero w = cond (dead w) none (some w)
-  hunt (suc k) w = cond (dead w) none (first-of (λ b. hunt k (w adding b)) (next R w))
-
-  -- every whole way met
   unfoldable pub gather : ℕ → List ℕ → List (List ℕ)
   unfolding flatMap
   gather zero w = cond (dead w) [] (w ∷ [])
   gather (suc k) w = cond (dead w) [] (flatMap (λ b. gather k (w adding b)) (next R w))
-
-  -- the first is the head of them all
-  hunt-gather : (k : ℕ) (w : List ℕ) → hunt k w ≡ first (λ v. true) (gather k w)
-  unfolding hunt gather first
-  hunt-gather zero w = elim (dead w) as (λ b. cond b none (some w) ≡ first (λ v. true) (cond b [] (w ∷ []))) [ true ↦ refl | false ↦ refl ]
-  hunt-gather (suc k) w =
-      elim (dead w) as (λ b. cond b none (first-of (λ a. hunt k (w adding a)) (next R w)) ≡ first (λ v. true) (cond b [] (flatMap (λ a. gather k (w adding a)) (next R w)))) [
-        | true ↦ refl
-        | false ↦
-            ap (λ (f : ℕ → Option (List ℕ)). first-of f (next R w)) (fun-ext (λ a. hunt-gather k (w adding a)))
-            ∙ sym (first-flat (λ v. true) (λ a. gather k (w adding a)) (next R w))
-      ]
 
 module _ (R : Rule) (n : ℕ) where
   -- choices w that the rule allows, with k of the n to come
@@ -100,8 +82,3 @@ module _ (R : Rule) (n : ℕ) where
           (λ _.
           flat-same (λ b. gather R dead k (w adding b)) (λ b. filter passes (completions R k (w adding b))) (next R w) (λ b i. gather-filter k (w adding b) (reached-next k w b r i))
           ∙ sym (filter-flat passes (λ b. completions R k (w adding b)) (next R w)))
-
-      -- so the first that it meets is the first that passes
-      pub hunt-first : (k : ℕ) (w : List ℕ) → Reached k w → hunt R dead k w ≡ first passes (completions R k w)
-      hunt-first k w r =
-          hunt-gather R dead k w ∙ ap (first (λ v. true)) (gather-filter k w r) ∙ sym (first-filter passes (completions R k w))

@@ -109,16 +109,11 @@ choices-length j (suc k) = omega (arith, choices-length (suc j) k)
 pub choice-at-is : (n : ℕ) → n ≤ 16 → (c : ℕ) → c < 2 * n → is-choice n (choice-at c) ≡ true
 choice-at-is n small c h = ⊎-elim (λ (e : c % 2 < 1). choice-test n (choice-at c) (inl (omega arith))) (λ (e : 1 ≤ c % 2). choice-test n (choice-at c) (inr (omega arith))) (below-or-not (c % 2) 1)
 
--- ---- offered: the choices from place k of the order on that may follow w
+-- ---- offered: the choices from place k of the order on that may follow w; from place 0, all that may
 
 module _ (n : ℕ) (w : List ℕ) where
   unfoldable pub offered : ℕ → List ℕ
   offered k = filter (free-choice w) (drop k (choices-from 0 n))
-
-  -- at first all that may follow
-  pub offered-all : offered 0 ≡ next (straight n) w
-  unfolding offered
-  offered-all = refl
 
   module _ (k : ℕ) where
     -- a choice that may not follow is passed over

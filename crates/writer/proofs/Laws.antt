@@ -1,9 +1,9 @@
 -- What the writer's first tests say, and the length of the record.
-use Prim.Native.Nat.{ℕ, suc, _+_, _%_, _≤_, _<_}
-use mathlib.Core.Path.{_≡_, refl, sym, ap, _∙_}
+use Prim.Native.Nat.{ℕ, suc, _+_, _%_, _≤_}
+use mathlib.Core.Path.{_≡_, refl, sym}
 use mathlib.Core.Bool.{Bool, true, false, cond}
-use mathlib.Core.List.{List, _++_}
-use borrow.Author.Tests.{lt-ltb, le-ltb, ltb-false, ne-eqb, eqb-false}
+use mathlib.Core.List.{List}
+use borrow.Author.Tests.{le-ltb, ltb-false, ne-eqb, eqb-false}
 use native.Mathlib.Omega.{arith}
 use lib.Dec.{ltb, eqb}
 use lib.ListN.{length, length-append}
@@ -11,7 +11,7 @@ use Rattle.answers.specs.declared.Answer.{Answer}
 use Rattle.cubes.proofs.Lists.{Each}
 use Rattle.records.specs.Records.{cube-code, clash-code}
 use Rattle.records.proofs.Cubes.{first-each, each-first}
-use Rattle.answers.specs.Answers.{fine, accepted, refused, sound}
+use Rattle.answers.specs.Answers.{fine, refused, sound}
 use Rattle.answers.proofs.Faults.{by-both, by-next}
 use Rattle.writer.specs.Writing.{record-bytes, few, sizes, cubes}
 

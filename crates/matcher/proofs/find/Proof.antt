@@ -1,10 +1,7 @@
 -- Refused by the functions, the buffer left alone; else what the search with q = 0 comes to, what that with q = 1 comes to, or the
 -- refusal that both measured.
-use Prim.Native.Nat.{ℕ}
-use mathlib.Core.Path.{_≡_, sym, ap, _∙_}
-use mathlib.Core.Bool.{true, false}
-use mathlib.Core.List.{List, []}
-use mathlib.Core.Option.{Option, none, Option·map}
+use mathlib.Core.Path.{sym, ap, _∙_}
+use mathlib.Core.Option.{Option·map}
 use borrow.Author.Needs.{needs}
 use native.Mathlib.Omega.{arith}
 use lib.ListN.{length}

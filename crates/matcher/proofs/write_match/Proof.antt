@@ -58,7 +58,7 @@ returns-2 c =
     let choices : k .out ≡ sets (sets (a .out .now) 0 header) 4 (as-bytes (a .n) (a .choices)) =
     sym (choices-stored (k .out) _ (k .at) (k .rest) (end .loop-test .left)) ∙ k .inv .whole
     ∙ ap₂ (λ (l : List ℕ) (m : ℕ). sets l 4 (as-bytes m (a .choices))) (put .put .ensures) (omega arith) in
-    delivered-whole _ 1 _ _ _ refl _ (room .if1 .left) (c .accepted .ensures) _ (choices ∙ sets-join (a .out .now) header (as-bytes (a .n) (a .choices)) 0)
+    delivered-whole _ 1 _ _ _ refl _ (omega (arith, room .if1 .left)) (c .accepted .ensures) _ (choices ∙ sets-join (a .out .now) header (as-bytes (a .n) (a .choices)) 0)
 
 pub write-match-spec : {M : Type 1} → statement M
 write-match-spec =
