@@ -1,11 +1,12 @@
-// Runs the cases of document 01 on records, summaries and claims, and the examples of the 1995 paper, through the public calls,
-// and prints a line for each.
+// Runs the cases of document 01 on records, summaries, claims and matches, and the examples of the 1995 paper, through the public
+// calls, and prints a line for each.
 ghost use Prim.Native.Nat.{_≤_};
 ghost use lib.ListN.{length};
 
 mod checks;
 mod functions;
 mod kinds;
+mod matches;
 mod show;
 mod wirings;
 
@@ -123,14 +124,11 @@ fn at_fault() {
     kinds::faults(b"At fault, f ends too early", &CONJ[..10], &CLASH);
 }
 
-// What the paper says of its examples, and the straight wirings, which do not agree.
+// What the paper says of its examples, and straight wirings, which do not agree.
 fn examples() {
     wirings::one(b"Example 2.1", &F_2_1, &G_2_1, b"\x01\x02\x10");
-    wirings::first(b"Example 2.1", &F_2_1, &G_2_1);
-    wirings::plain(b"Example 3.2", &F_3_2, &G_3_2);
-    wirings::first(b"Example 3.2", &F_3_2, &G_3_2);
     wirings::one(b"Example 2.1", &F_2_1, &G_2_1, b"\x00\x01\x02");
-    wirings::one(b"Example 3.2", &F_3_2, &G_3_2, b"\x00\x01\x02");
+    wirings::plain(b"Example 3.2", &F_3_2, &G_3_2);
 }
 
 // Both functions before the claim, and g's own faults even where n differs.
@@ -161,4 +159,7 @@ fn main() {
     checks::matches();
     checks::trees();
     functions_first();
+    matches::starred();
+    matches::more();
+    matches::rooms();
 }

@@ -6,7 +6,7 @@ pub fn text(bytes: &[u8]) {
     io::write_all(1, bytes);
 }
 
-fn number(x: u64) {
+pub fn number(x: u64) {
     io::print_decimal(1, x);
 }
 
@@ -19,13 +19,18 @@ pub fn three(x: u64, y: u64, z: u64) {
     number(z);
 }
 
-// The case's name and the answer's four numbers.
-pub fn answer(name: &[u8], found: Answer) {
-    text(name);
-    text(b": ");
+// An answer's four numbers.
+pub fn numbers(found: Answer) {
     three(found.code as u64, found.kind as u64, found.record as u64);
     text(b" ");
     number(found.place as u64);
+}
+
+// The case's name and the answer.
+pub fn answer(name: &[u8], found: Answer) {
+    text(name);
+    text(b": ");
+    numbers(found);
     text(b"; ");
 }
 

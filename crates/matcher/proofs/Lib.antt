@@ -1,4 +1,6 @@
 pub mod Nodes
+pub mod Searching
+pub mod Writing
 pub mod Exact
-pub mod Searches
+pub mod Claiming
 pub mod Settled

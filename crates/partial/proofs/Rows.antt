@@ -14,6 +14,7 @@ use Rattle.wirings.specs.Wirings.{straight}
 use Rattle.wirings.specs.Pairs.{dead, cubes-in, at-cube, side, against, Pair, cube-pairs, pairs, pair-test, of-pair, first-dead}
 use Rattle.wirings.proofs.Indexed.{of-side, side-test}
 use Rattle.partial.specs.declared.Carried.{Carried}
+use Rattle.partial.specs.declared.Found.{Found}
 use Rattle.partial.specs.Partial.{carried, clears, found, row, rows}
 use Rattle.partial.proofs.Carrying.{clears-dead}
 
@@ -27,6 +28,10 @@ pub found-none : (o : Option Pair) → found o .found ≡ false → o ≡ none
 unfolding found
 found-none none e = refl
 found-none (some p) e = absurd (false≢true (sym e))
+
+-- as a caller meets it
+pub found-as : (o : Option Pair) (pair : Found) {t : Bool} → pair ≡ found o → pair .found ≡ t → found o .found ≡ t
+found-as o pair is e = ap (λ (x : Found). x .found) (sym is) ∙ e
 
 -- ---- one carried cube against a list
 

@@ -1,7 +1,7 @@
 -- Each call has one input less to be placed; the loop goes through the choices, and what the choices still offered give, with the
 -- length so far, is the whole answer.
 use Prim.Native.Nat.{ℕ, _-_, _*_, _<_}
-use mathlib.Core.Path.{sym, ap, _∙_}
+use mathlib.Core.Path.{sym, _∙_}
 use native.Mathlib.Omega.{arith}
 use borrow.Author.Needs.{needs}
 use borrow.Author.Tests.{not-true, not-false}
@@ -10,7 +10,9 @@ use borrow.Fn.PlainCycle.{Measures, is, falls, and}
 use Rattle.records.proofs.Frame.{framed-both}
 use Rattle.partial.proofs.Steps.{less-left}
 use Rattle.partial.proofs.Standing.{stands-n}
-use Rattle.matcher.proofs.Nodes.{death-at, Searching, searched-dead, searched-whole, searching-start, search-skips, child-found, child-none, sum-fits, searched-all}
+use Rattle.partial.proofs.Rows.{found-as}
+use Rattle.matcher.proofs.Nodes.{death-at}
+use Rattle.matcher.proofs.Searching.{Searching, searched-dead, searched-whole, searching-start, search-skips, child-found, child-none, sum-fits, searched-all}
 use Rattle.matcher.proofs.search.Reads as reads
 use Rattle.matcher.proofs.search.Kinds as kinds
 use Rattle.matcher.proofs.+search.Lts-search as lts
@@ -60,13 +62,11 @@ pub +search-spec : {M : Type 1} → statement M
     (h .0, (framed .0 .long, framed .1 .long)))
     (λ c.
     let h = c .before .before .before .before .pre .1 in
-    searched-dead _ _ _ _ (h .0) (death-at _ _ _ _ (h .1 .0) (h .1 .1)) (ap (λ x. x .found) (sym (c .before .first-dead .ensures)) ∙ c .if1 .taken))
+    searched-dead _ _ _ _ (h .0) (death-at _ _ _ _ (h .1 .0) (h .1 .1)) (found-as _ _ (c .before .first-dead .ensures) (c .if1 .taken)))
     (λ c.
     let h = c .before .before .before .before .before .before .pre .1 in
-    searched-whole _ _ _ _ (h .0) (death-at _ _ _ _ (h .1 .0) (h .1 .1)) (ap (λ x. x .found) (sym (c .before .before .before .first-dead .ensures)) ∙ c .before .before .if1 .left) (c .if2 .taken))
-    (λ c.
-    let h = c .before .before .before .before .before .before .pre .1 in
-    searching-start _ _ _ _ (h .0) (ap (λ x. x .found) (sym (c .before .before .before .first-dead .ensures)) ∙ c .before .before .if1 .left) (c .if2 .left))
+    searched-whole _ _ _ _ (h .0) (death-at _ _ _ _ (h .1 .0) (h .1 .1)) (found-as _ _ (c .before .before .before .first-dead .ensures) (c .before .before .if1 .left)) (c .if2 .taken))
+    (λ c. searching-start _ _ _ _ (c .before .before .before .before .before .before .pre .1 .0) (found-as _ _ (c .before .before .before .first-dead .ensures) (c .before .before .if1 .left)) (c .if2 .left))
     (λ c. omega (arith, c .before .before .before .before .before .before .before .before .pre .1 .0 .few))
     (λ c κs. search needs)
     (λ c. omega (arith, c .before .before .before .before .before .before .before .before .before .before .pre .1 .0 .few))
@@ -75,11 +75,8 @@ pub +search-spec : {M : Type 1} → statement M
     (λ c.
     let test = c .before .before .before in
     let loop = test .before .before in
-    search-skips _ _ _ _ (loop .before .before .before .before .before .before .before .pre .1 .0) _ _ (test .if3 .taken) (c .before .before .choice .ensures)
-    (sym (c .before .free .ensures) ∙ not-true _ (c .if4 .taken)) _ (loop .loop .inv))
-    (λ c κs.
-    let start = c .before .before .before .before .before .before .before .before .before .before .before .before in
-    (start .pre .1 .0, sym (c .before .free .ensures) ∙ not-false _ (c .if4 .left)))
+    search-skips _ _ _ _ (loop .before .before .before .before .before .before .before .pre .1 .0) _ _ (test .if3 .taken) (c .before .before .choice .ensures) _ (loop .loop .inv) (sym (c .before .free .ensures) ∙ not-true _ (c .if4 .taken)))
+    (λ c κs. (c .before .before .before .before .before .before .before .before .before .before .before .before .pre .1 .0, sym (c .before .free .ensures) ∙ not-false _ (c .if4 .left)))
     (λ c κs.
     let start = c .before .before .before .before .before .before .before .before .before .before .before .before .before in
     let h = start .pre .1 in
@@ -88,24 +85,22 @@ pub +search-spec : {M : Type 1} → statement M
     (λ c.
     let test = c .before .before .before .before .before .before in
     let loop = test .before .before in
-    child-found _ _ _ _ (loop .before .before .before .before .before .before .before .pre .1 .0) _ _ (test .if3 .taken) (c .before .before .before .before .before .choice .ensures)
-    (sym (c .before .before .before .before .free .ensures) ∙ not-false _ (c .before .before .before .if4 .left)) _ (c .before .before .place .ensures .0) _ (loop .loop .inv) _
-    (c .before .search .ensures) (c .if5 .taken))
+    child-found _ _ _ _ (loop .before .before .before .before .before .before .before .pre .1 .0) _ _ (test .if3 .taken) (c .before .before .before .before .before .choice .ensures) _ (loop .loop .inv) (sym (c .before .before .before .before .free .ensures) ∙ not-false _ (c .before .before .before .if4 .left)) _ (c .before .before .place .ensures .0) _ (c .before .search .ensures)
+    (c .if5 .taken))
     (λ c.
     let test = c .before .before .before .before .before .before .before in
     let loop = test .before .before in
     record {
-      fits = sum-fits _ _ _ _ (loop .before .before .before .before .before .before .before .pre .1 .0) _ _ (test .if3 .taken) (c .before .before .before .before .before .before .choice .ensures)
-          (sym (c .before .before .before .before .before .free .ensures) ∙ not-false _ (c .before .before .before .before .if4 .left)) _ (c .before .before .before .place .ensures .0) _ (loop .loop .inv) _
-          (c .before .before .search .ensures) (c .before .if5 .left);
+      fits =
+          sum-fits _ _ _ _ (loop .before .before .before .before .before .before .before .pre .1 .0) _ _ (test .if3 .taken) (c .before .before .before .before .before .before .choice .ensures) _ (loop .loop .inv) (sym (c .before .before .before .before .before .free .ensures) ∙ not-false _ (c .before .before .before .before .if4 .left)) _ (c .before .before .before .place .ensures .0) _ (c .before .before .search .ensures)
+          (c .before .if5 .left);
     })
     (λ c. omega arith)
     (λ c.
     let test = c .before .before .before .before .before .before .before in
     let loop = test .before .before in
-    child-none _ _ _ _ (loop .before .before .before .before .before .before .before .pre .1 .0) _ _ (test .if3 .taken) (c .before .before .before .before .before .before .choice .ensures)
-    (sym (c .before .before .before .before .before .free .ensures) ∙ not-false _ (c .before .before .before .before .if4 .left)) _ (c .before .before .before .place .ensures .0) _ (loop .loop .inv) _
-    (c .before .before .search .ensures) (c .before .if5 .left))
+    child-none _ _ _ _ (loop .before .before .before .before .before .before .before .pre .1 .0) _ _ (test .if3 .taken) (c .before .before .before .before .before .before .choice .ensures) _ (loop .loop .inv) (sym (c .before .before .before .before .before .free .ensures) ∙ not-false _ (c .before .before .before .before .if4 .left)) _ (c .before .before .before .place .ensures .0) _ (c .before .before .search .ensures)
+    (c .before .if5 .left))
     (λ c.
     let loop = c .before .before in
     searched-all _ _ _ _ (loop .before .before .before .before .before .before .before .pre .1 .0) _ (c .if3 .left) _ (loop .loop .inv))

@@ -12,8 +12,10 @@ use lib.Seq.{sets}
 use Rattle.records.proofs.Frame.{framed-both}
 use Rattle.partial.specs.Partial.{Few}
 use Rattle.partial.proofs.Steps.{less-left}
+use Rattle.partial.proofs.Rows.{found-as}
 use Rattle.partial.proofs.Whole.{few-found}
-use Rattle.matcher.proofs.Nodes.{Writing, closing-node, opened-node, split-room, write-skips, child-room, child-written, end-written, all-written}
+use Rattle.matcher.proofs.Nodes.{closing-node}
+use Rattle.matcher.proofs.Writing.{Writing, closing-room, mark-room, split-room, write-skips, child-room, child-written, end-written, all-written}
 use Rattle.matcher.proofs.write_tree.Reads as reads
 use Rattle.matcher.proofs.write_tree.Kinds as kinds
 use Rattle.matcher.proofs.+write_tree.Lts-write_tree as lts
@@ -67,27 +69,14 @@ pub +write-tree-spec : {M : Type 1} → statement M
     (λ c. let small = subst Few (sym (c .before .before .first-dead .ensures)) (few-found _ _ _ _ _ (c .before .before .before .before .before .before .pre .1 .1 .0)) in omega (arith, small .first))
     (λ c. let small = subst Few (sym (c .before .before .before .first-dead .ensures)) (few-found _ _ _ _ _ (c .before .before .before .before .before .before .before .pre .1 .1 .0)) in omega (arith, small .second))
     (λ c. search needs)
-    (λ c κs.
-    let start = c .before .before .before .before .before .before .before .before .before in
-    let closing = closing-node _ _ _ _ (start .pre .1 .0) _ (c .before .before .before .before .before .first-dead .ensures) (c .before .before .before .before .if1 .taken) in
-    omega (arith, start .pre .1 .1 .1, ap length closing))
-    (λ c.
-    let start = c .before .before .before .before .before .before .before .before .before .before .before .before in
-    let closing = closing-node _ _ _ _ (start .pre .1 .0) _ (c .before .before .before .before .before .before .before .before .first-dead .ensures) (c .before .before .before .before .before .before .before .if1 .taken) in
-    omega (arith, start .pre .1 .1 .1, ap length closing))
+    (λ c κs. let h = c .before .before .before .before .before .before .before .before .before .pre .1 in closing-room _ _ _ _ (h .0) _ (c .before .before .before .before .before .first-dead .ensures) (c .before .before .before .before .if1 .taken) _ _ (h .1 .1))
+    (λ c. let h = c .before .before .before .before .before .before .before .before .before .before .before .before .pre .1 in let room = closing-room _ _ _ _ (h .0) _ (c .before .before .before .before .before .before .before .before .first-dead .ensures) (c .before .before .before .before .before .before .before .if1 .taken) _ _ (h .1 .1) in omega (arith, room))
     (λ c. search needs)
     (λ c.
-    let start = c .before .before .before .before .before .before .before .before .before .before .before .before in
-    let closing = closing-node _ _ _ _ (start .pre .1 .0) _ (c .before .before .before .before .before .before .before .before .first-dead .ensures) (c .before .before .before .before .before .before .before .if1 .taken) in
+    let closing = closing-node _ _ _ _ (c .before .before .before .before .before .before .before .before .before .before .before .before .pre .1 .0) _ (c .before .before .before .before .before .before .before .before .first-dead .ensures) (c .before .before .before .before .before .before .before .if1 .taken) in
     (omega (arith, ap length closing), c .before .before .put .ensures ∙ ap (sets _ _) closing))
-    (λ c.
-    let start = c .before .before .before .before .before in
-    let parted = opened-node _ _ _ _ (start .pre .1 .0) (ap (λ x. x .found) (sym (c .before .first-dead .ensures)) ∙ c .if1 .left) in
-    omega (arith, start .pre .1 .1 .1, ap length parted))
-    (λ c.
-    let start = c .before .before .before .before .before in
-    let parted = opened-node _ _ _ _ (start .pre .1 .0) (ap (λ x. x .found) (sym (c .before .first-dead .ensures)) ∙ c .if1 .left) in
-    omega (arith, start .pre .1 .1 .1, ap length parted))
+    (λ c. let h = c .before .before .before .before .before .pre .1 in let room = mark-room _ _ _ _ (h .0) (found-as _ _ (c .before .first-dead .ensures) (c .if1 .left)) _ _ (h .1 .1) in omega (arith, room))
+    (λ c. let h = c .before .before .before .before .before .pre .1 in let room = mark-room _ _ _ _ (h .0) (found-as _ _ (c .before .first-dead .ensures) (c .if1 .left)) _ _ (h .1 .1) in omega (arith, room))
     (λ c. record { within = omega arith; room = refl; long = refl; rest = refl })
     (λ c. omega (arith, c .before .before .before .before .before .before .before .pre .1 .0 .few))
     (λ c κs. search needs)
@@ -97,22 +86,22 @@ pub +write-tree-spec : {M : Type 1} → statement M
     (λ c.
     let test = c .before .before .before in
     let loop = test .before .before in
-    write-skips _ _ _ _ (loop .before .before .before .before .before .before .pre .1 .0) _ _ (test .if2 .taken) (c .before .before .choice .ensures) (sym (c .before .free .ensures) ∙ not-true _ (c .if3 .taken)) _ _ _ _ (loop .loop .inv))
+    write-skips _ _ _ _ (loop .before .before .before .before .before .before .pre .1 .0) _ _ (test .if2 .taken) (c .before .before .choice .ensures) _ _ _ _ (loop .loop .inv) (sym (c .before .free .ensures) ∙ not-true _ (c .if3 .taken)))
     (λ c κs. (c .before .before .before .before .before .before .before .before .before .before .before .pre .1 .0, sym (c .before .free .ensures) ∙ not-false _ (c .if3 .left)))
     (λ c κs.
     let test = c .before .before .before .before .before in
     let loop = test .before .before in
     let start = loop .before .before .before .before .before .before in
+    let a = start .args in
     let h = start .pre .1 in
     let placed = c .before .place .ensures .0 in
-    let none-found = ap (λ x. x .found) (sym (loop .before .before .first-dead .ensures)) ∙ loop .before .if1 .left in (
-      omega (arith, start .pre .0, less-left (start .args .w) (h .0) _ _ placed),
+    let room = split-room _ _ _ _ (h .0) (found-as _ _ (loop .before .before .first-dead .ensures) (loop .before .if1 .left)) (a .out .now) (a .start) (h .1 .1) in (
+      omega (arith, start .pre .0, less-left (a .w) (h .0) _ _ placed),
       (
         c .before .place .ensures .1,
         (
           h .1 .0,
-          child-room _ _ _ _ (h .0) _ _ (test .if2 .taken) (c .before .before .before .before .choice .ensures) (sym (c .before .before .before .free .ensures) ∙ not-false _ (c .before .before .if3 .left)) _ placed _ _ _ _ (loop .loop .inv)
-              (split-room _ _ _ _ (h .0) none-found (start .args .out .now) (start .args .start) (h .1 .1)),
+          child-room _ _ _ _ (h .0) _ _ (test .if2 .taken) (c .before .before .before .before .choice .ensures) _ _ _ _ (loop .loop .inv) (sym (c .before .before .before .free .ensures) ∙ not-false _ (c .before .before .if3 .left)) _ placed room,
         ),
       ),
     ))
@@ -120,13 +109,16 @@ pub +write-tree-spec : {M : Type 1} → statement M
     (λ c.
     let test = c .before .before .before .before .before .before .before .before in
     let loop = test .before .before in
-    child-written _ _ _ _ (loop .before .before .before .before .before .before .pre .1 .0) _ _ (test .if2 .taken) (c .before .before .before .before .before .before .before .choice .ensures) (sym (c .before .before .before .before .before .before .free .ensures) ∙ not-false _ (c .before .before .before .before .before .if3 .left)) _ (c .before .before .before .before .place .ensures .0) _ _ _ _ (loop .loop .inv) _ _
-    (c .before .before .write-tree .ensures .0) (c .before .before .write-tree .ensures .1))
+    let written = c .before .before .write-tree .ensures in
+    child-written _ _ _ _ (loop .before .before .before .before .before .before .pre .1 .0) _ _ (test .if2 .taken) (c .before .before .before .before .before .before .before .choice .ensures) _ _ _ _ (loop .loop .inv) (sym (c .before .before .before .before .before .before .free .ensures) ∙ not-false _ (c .before .before .before .before .before .if3 .left)) _ (c .before .before .before .before .place .ensures .0) _ _
+    (written .0) (written .1))
     (λ c. let a = c .before .before .before .before .before .before .before .before .args in c .before .before .loop .inv .room ∙ length-set (a .out .now) (a .start) 0xFF)
     (λ c.
     let loop = c .before .before in
     let start = loop .before .before .before .before .before .before in
     let a = start .args in
     let s = start .pre .1 .0 in
-    let none-found = ap (λ x. x .found) (sym (loop .before .before .first-dead .ensures)) ∙ loop .before .if1 .left in
-    (end-written _ _ _ _ s _ (c .if2 .left) none-found (a .out .now) (a .start) _ _ (loop .loop .inv), all-written _ _ _ _ s _ (c .if2 .left) none-found (a .out .now) (a .start) _ _ (loop .loop .inv)))
+    let none-found = found-as _ _ (loop .before .before .first-dead .ensures) (loop .before .if1 .left) in (
+      end-written _ _ _ _ s none-found (a .out .now) (a .start) _ (c .if2 .left) _ _ (loop .loop .inv),
+      all-written _ _ _ _ s none-found (a .out .now) (a .start) _ (c .if2 .left) _ _ (loop .loop .inv),
+    ))

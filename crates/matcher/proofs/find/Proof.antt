@@ -12,8 +12,9 @@ use Rattle.records.specs.Records.{inputs, Accepted}
 use Rattle.records.proofs.Frame.{both-sound, framed-both, few-inputs}
 use Rattle.partial.proofs.Standing.{stands-n, stands-as}
 use Rattle.matcher.specs.Matching.{matching, first-from, searched}
-use Rattle.matcher.proofs.Nodes.{node-bytes, came-none}
-use Rattle.matcher.proofs.Searches.{Comes, measured-most, first-plain, first-turned, match-delivered, refusal-long, refusal-delivered}
+use Rattle.matcher.proofs.Nodes.{node-bytes}
+use Rattle.matcher.proofs.Searching.{came-none}
+use Rattle.matcher.proofs.Claiming.{Comes, measured-most, first-plain, first-turned, match-delivered, refusal-long, refusal-delivered}
 use Rattle.matcher.proofs.find.Statement.{statement}
 use Rattle.matcher.proofs.find.Tie as tie
 

@@ -28,7 +28,8 @@ use Rattle.partial.proofs.Standing.{stands-as, placed-bytes}
 use Rattle.claims.specs.Claims.{match-claim}
 use Rattle.matcher.specs.declared.Outcome.{Outcome}
 use Rattle.matcher.specs.Matching.{first-agreeing, own-refusal, claim-of, kind-found, claim-for, matching, first-from, searched}
-use Rattle.matcher.proofs.Nodes.{node-bytes, node-most, came-some, came-none}
+use Rattle.matcher.proofs.Nodes.{node-bytes, node-most}
+use Rattle.matcher.proofs.Searching.{came-some, came-none}
 use Rattle.matcher.proofs.Exact.{matching-room}
 
 -- ---- from the start
