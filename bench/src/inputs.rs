@@ -1,9 +1,11 @@
 //! The functions and claims that both sides work on, made with fixed seeds.
 
-use crate::plain::function::{Cube, Function};
+use crate::plain;
+use crate::plain::function::Cube;
 use crate::plain::wiring::Wiring;
 
-pub struct Input {
+/// Two functions and a claim about them, for the checker.
+pub struct Claim {
     pub name: String,
     pub f: Vec<u8>,
     pub g: Vec<u8>,
@@ -12,29 +14,58 @@ pub struct Input {
     pub times: u32,
 }
 
+/// Several pairs of functions, for the matcher.
+pub struct Pairs {
+    pub name: String,
+    pub pairs: Vec<Pair>,
+}
+
+#[derive(Clone)]
+pub struct Pair {
+    pub f: Vec<u8>,
+    pub g: Vec<u8>,
+    /// The length of the claim.
+    pub room: usize,
+}
+
 /// What is timed.
-pub fn large() -> Vec<Input> {
+pub fn large_claims() -> Vec<Claim> {
     let deepest = Make { n: 7, cubes: 16, literals: 4, tree: Tree::Deepest };
     let own = Make { n: 6, cubes: 6, literals: 4, tree: Tree::Own };
     vec![deepest.refusal(1), own.refusal(10), matching(8, 64, 4, 1_000)]
 }
 
+pub fn large_pairs() -> Vec<Pairs> {
+    vec![
+        pairs(4, 4, 3, 400),
+        pairs(4, 8, 3, 400),
+        pairs(5, 6, 3, 100),
+        pairs(6, 6, 3, 30),
+        pairs(7, 6, 3, 6),
+        pairs(8, 16, 5, 1),
+    ]
+}
+
 /// Small ones of every sort, whole, cut and with a byte changed.
-pub fn small() -> Vec<Input> {
-    let mut inputs = vec![];
+pub fn small_claims() -> Vec<Claim> {
+    let mut claims = vec![];
     // Enough cubes that no wiring fits at one of the first seeds.
     for (n, cubes, literals) in [(3, 3, 2), (4, 8, 3), (5, 10, 3)] {
         for tree in [Tree::Own, Tree::Deepest] {
-            inputs.push(Make { n, cubes, literals, tree }.refusal(1));
+            claims.push(Make { n, cubes, literals, tree }.refusal(1));
         }
-        inputs.push(matching(n, cubes, literals, 1));
+        claims.push(matching(n, cubes, literals, 1));
     }
-    inputs.into_iter().flat_map(damaged).collect()
+    claims.into_iter().flat_map(damaged).collect()
 }
 
-/// The input, and the same with its claim cut or changed at the last byte.
-fn damaged(input: Input) -> [Input; 3] {
-    let other = |what: &str, claim: Vec<u8>| Input {
+pub fn small_pairs() -> Vec<Pairs> {
+    vec![pairs(3, 2, 2, 20), pairs(4, 4, 3, 20), pairs(5, 6, 3, 10), pairs(6, 6, 3, 2)]
+}
+
+/// The claim, and the same cut or changed at the last byte.
+fn damaged(input: Claim) -> [Claim; 3] {
+    let other = |what: &str, claim: Vec<u8>| Claim {
         name: format!("{}, {what}", input.name),
         f: input.f.clone(),
         g: input.g.clone(),
@@ -45,6 +76,24 @@ fn damaged(input: Input) -> [Input; 3] {
     let cut = other("cut", start.to_vec());
     let changed = other("changed", [start, &[last ^ 1]].concat());
     [input, cut, changed]
+}
+
+// ---- Pairs ----
+
+/// So many pairs of random functions, with so many cubes in each list and so many
+/// literals in each cube. Some match and some do not.
+fn pairs(n: u8, cubes: usize, literals: u8, count: u64) -> Pairs {
+    let pair = |seed| {
+        let mut random = Random(seed);
+        let [f, g] = [(); 2].map(|()| record(&function(&mut random, n, cubes, literals)));
+        // Told where the buffer is too short.
+        let room = (plain::find_match(&f, &g, &mut []) >> 24) as usize;
+        Pair { f, g, room }
+    };
+    let pairs: Vec<Pair> = (1..=count).map(pair).collect();
+    let matched = pairs.iter().filter(|pair| pair.room == 4 + n as usize).count();
+    let name = format!("n {n}, {cubes} + {cubes} cubes, {matched} of {count} match");
+    Pairs { name, pairs }
 }
 
 // ---- Refusals ----
@@ -69,7 +118,7 @@ struct Make {
 }
 
 impl Make {
-    fn refusal(self, times: u32) -> Input {
+    fn refusal(self, times: u32) -> Claim {
         let Make { n, cubes, literals, tree } = self;
         let how = match tree {
             Tree::Own => "the matcher's own tree",
@@ -82,7 +131,7 @@ impl Make {
             let f = function(&mut random, n, cubes, literals);
             let g = function(&mut random, n, cubes, literals);
             if let Some(claim) = self.claim(&mut random, &f, &g) {
-                return Input { name, f: record(&f), g: record(&g), claim, times };
+                return Claim { name, f: record(&f), g: record(&g), claim, times };
             }
         }
         unreachable!("there are seeds enough")
@@ -127,10 +176,11 @@ impl Make {
         if wiring.is_whole() {
             return None;
         }
-        claim.push(0xFF);
-        for j in (0..self.n).filter(|&j| !wiring.uses(j)) {
-            self.put(random, pairs, wiring.place(j, false), claim)?;
-            self.put(random, pairs, wiring.place(j, true), claim)?;
+        claim.push(plain::SPLIT);
+        for j in wiring.free() {
+            for inverted in [false, true] {
+                self.put(random, pairs, wiring.place(j, inverted), claim)?;
+            }
         }
         Some(())
     }
@@ -139,11 +189,11 @@ impl Make {
 // ---- Matches ----
 
 /// A function and itself, straight.
-fn matching(n: u8, cubes: usize, literals: u8, times: u32) -> Input {
+fn matching(n: u8, cubes: usize, literals: u8, times: u32) -> Claim {
     let f = record(&function(&mut Random(1), n, cubes, literals));
     let mut claim = vec![0x4D, 0x54, n, 0];
     claim.extend(0..n);
-    Input {
+    Claim {
         name: format!("n {n}, {cubes} + {cubes} cubes, a match"),
         g: f.clone(),
         f,
@@ -153,6 +203,12 @@ fn matching(n: u8, cubes: usize, literals: u8, times: u32) -> Input {
 }
 
 // ---- Functions ----
+
+struct Function {
+    n: u8,
+    on: Vec<Cube>,
+    off: Vec<Cube>,
+}
 
 fn function(random: &mut Random, n: u8, cubes: usize, literals: u8) -> Function {
     // The first cubes may leave no room for the last: then it starts anew.

@@ -57,6 +57,15 @@ mod foreign {
             claim: *const u8,
             claim_len: usize,
         ) -> u64;
+
+        pub fn probe_match(
+            f: *const u8,
+            f_len: usize,
+            g: *const u8,
+            g_len: usize,
+            out: *mut u8,
+            out_len: usize,
+        ) -> u64;
     }
 }
 
@@ -121,4 +130,11 @@ pub type DeadCall = fn(&[u8], &[u8], &[u8], u8) -> u64;
 pub fn check(f: &[u8], g: &[u8], claim: &[u8]) -> u64 {
     let len = claim.len();
     unsafe { foreign::probe_check(f.as_ptr(), f.len(), g.as_ptr(), g.len(), claim.as_ptr(), len) }
+}
+
+/// Finds a match or a refusal of f and g: the packed answer, and the claim at the
+/// start of `out`.
+pub fn find_match(f: &[u8], g: &[u8], out: &mut [u8]) -> u64 {
+    let len = out.len();
+    unsafe { foreign::probe_match(f.as_ptr(), f.len(), g.as_ptr(), g.len(), out.as_mut_ptr(), len) }
 }

@@ -464,3 +464,118 @@ pub const CLAIMS: &[ClaimCase] = &[
     unread("f cut", [&[0x46], CONJ], &[], [1, 1, 1]),
     unread("g cut, and of another n", [WIRE, &[0x46, 0x4E, 2]], &[], [1, 2, 3]),
 ];
+
+/// The matcher's answer to two functions, with a buffer of so many bytes.
+pub struct MatchingCase {
+    pub name: &'static str,
+    pub f: &'static [u8],
+    pub g: &'static [u8],
+    pub room: usize,
+    /// Code, kind, record, place.
+    pub numbers: [u64; 4],
+    pub written: Option<&'static [u8]>,
+}
+
+impl MatchingCase {
+    pub fn answer(&self) -> Answer {
+        let [code, kind, record, place] = self.numbers;
+        Answer { code, kind, record, place }
+    }
+}
+
+/// The claim is written, in just the room that it needs; the mark tells its kind.
+const fn finds(name: &'static str, [f, g]: Records, claim: &'static [u8]) -> MatchingCase {
+    let place = claim.len();
+    let kind = if claim[0] == 0x4D { 1 } else { 2 };
+    let numbers = [0, kind, 0, place as u64];
+    MatchingCase { name, f, g, room: place, numbers, written: Some(claim) }
+}
+
+/// Nothing is written.
+const fn withholds(
+    name: &'static str,
+    [f, g]: Records,
+    room: usize,
+    [code, record, place]: [u64; 3],
+) -> MatchingCase {
+    MatchingCase { name, f, g, room, numbers: [code, 0, record, place], written: None }
+}
+
+/// The paper's example 2.1, with its inputs counted from 0, and the wiring that it
+/// names: x1, x2, x3 to y2, y3 and y1 inverted.
+pub const EXAMPLE_2_1: Records = [
+    &[0x46, 0x4E, 3, 2, 1, 0, 0b011, 0b100, 0b001, 0b101, 0],
+    &[0x46, 0x4E, 3, 1, 1, 0b001, 0b100, 0b010, 0b001],
+];
+pub const WIRING_OF_2_1: &[u8] = &[0x4D, 0x54, 3, 0, 0x01, 0x02, 0x10];
+
+/// Its example 3.2, and the two wirings that example 3.3 finds: x1, x2, x3 to y3,
+/// y1, y2 and to y1, y3, y2.
+pub const EXAMPLE_3_2: Records = [
+    &[0x46, 0x4E, 3, 2, 2, 0, 0b011, 0b111, 0, 0b010, 0b100, 0b001, 0b100],
+    &[0x46, 0x4E, 3, 1, 2, 0b010, 0b001, 0b001, 0b100, 0b100, 0b011],
+];
+pub const WIRINGS_OF_3_3: [&[u8]; 2] =
+    [&[0x4D, 0x54, 3, 0, 0x02, 0x00, 0x01], &[0x4D, 0x54, 3, 0, 0x00, 0x02, 0x01]];
+
+/// f is on where both inputs 0 and 1 are 1; g where input 1 is 0 and input 2 is 1.
+const TURNED: Records = [
+    &[0x46, 0x4E, 3, 1, 2, 0b011, 0, 0, 0b001, 0, 0b010],
+    &[0x46, 0x4E, 3, 1, 2, 0b100, 0b010, 0b010, 0, 0, 0b100],
+];
+
+/// f is its last input; g is on at the first pattern and at the last. Whatever the
+/// last input is led to, one of the two is not kept apart, and no pair is dead
+/// before it is placed.
+const LAST_INPUT: Records =
+    [&[0x46, 0x4E, 2, 1, 1, 0b10, 0, 0, 0b10], &[0x46, 0x4E, 2, 2, 0, 0, 0b11, 0b11, 0]];
+
+/// Off everywhere.
+const NEVER: &[u8] = &[0x46, 0x4E, 1, 0, 1, 0, 0];
+
+pub const MATCHINGS: &[MatchingCase] = &[
+    finds("Conj to Disj, with a buffer of 6", [CONJ, DISJ], &[0x4D, 0x54, 2, 1, 0x10, 0x11]),
+    withholds("Conj to Disj, with a buffer of 5", [CONJ, DISJ], 5, [18, 4, 6]),
+    finds("Conj to Odd", [CONJ, ODD], CONJ_ODD_CLAIM),
+    finds("Const to Wire", [CONST, WIRE], &[0x52, 0x46, 1, 0, 0, 0, 0, 0, 0]),
+    finds("Open to Wire", [OPEN, WIRE], &[0x4D, 0x54, 1, 0, 0x00]),
+    withholds("Wire to Conj", [WIRE, CONJ], 4_096, [9, 2, 2]),
+    // By hand. In example 2.1, x1 to y1 leaves both on cubes to be kept apart at y2,
+    // which serves one input; x1 to y1 inverted separates all three pairs.
+    finds("example 2.1", EXAMPLE_2_1, &[0x4D, 0x54, 3, 0, 0x10, 0x01, 0x02]),
+    // In example 3.2, x1 to y1 leaves three pairs: the first asks for x2 to y2 inverted
+    // or to y3, the second for x2 or x3 to y3, the third for x2 to y2 inverted or x3
+    // to y2.
+    finds("example 3.2", EXAMPLE_3_2, &[0x4D, 0x54, 3, 0, 0x00, 0x11, 0x02]),
+    // Input 0 of f must be led to input 1 inverted or to input 2, and input 1 then to
+    // the other.
+    finds("to inputs 1 and 2, the first inverted", TURNED, &[0x4D, 0x54, 3, 0, 0x11, 0x02, 0x00]),
+    finds("Wire to Wire", [WIRE, WIRE], &[0x4D, 0x54, 1, 0, 0x00]),
+    finds("Wire to Open", [WIRE, OPEN], &[0x4D, 0x54, 1, 0, 0x00]),
+    finds("Odd to Odd", [ODD, ODD], &[0x4D, 0x54, 2, 0, 0x00, 0x01]),
+    finds("Const to Const", [CONST, CONST], &[0x4D, 0x54, 1, 0, 0x00]),
+    finds("on everywhere to off everywhere", [CONST, NEVER], &[0x4D, 0x54, 1, 1, 0x00]),
+    finds("off everywhere to Wire", [NEVER, WIRE], &[0x52, 0x46, 1, 1, 0, 0, 1, 0, 0]),
+    finds("Wire to off everywhere", [WIRE, NEVER], &[0x52, 0x46, 1, 0, 0, 0, 1, 0, 0]),
+    finds(
+        "the last input to the first and last pattern",
+        LAST_INPUT,
+        &[
+            0x52, 0x46, 2, //
+            0xFF, 0xFF, 1, 0, 0, 1, 0, 1, 0xFF, 1, 0, 0, 1, 0, 1, //
+            0xFF, 1, 0, 0, 1, 0, 1, 0xFF, 1, 0, 0, 1, 0, 1, //
+            0xFF, 0xFF, 0, 0, 1, 0, 0, 0, 0xFF, 0, 0, 1, 0, 0, 0, //
+            0xFF, 0, 0, 1, 0, 0, 0, 0xFF, 0, 0, 1, 0, 0, 0,
+        ],
+    ),
+    withholds("Conj to Disj, no buffer", [CONJ, DISJ], 0, [18, 4, 6]),
+    withholds("Conj to Odd, one byte short", [CONJ, ODD], 28, [18, 4, 29]),
+    withholds("Const to Wire, room for a match", [CONST, WIRE], 5, [18, 4, 9]),
+    withholds("Open to Wire, one byte short", [OPEN, WIRE], 4, [18, 4, 5]),
+    withholds("Wire to Conj, no buffer", [WIRE, CONJ], 0, [9, 2, 2]),
+    withholds("f cut, no buffer", [&[0x46], CONJ], 0, [1, 1, 1]),
+    withholds("g of another n, and cut", [WIRE, &[0x46, 0x4E, 2]], 0, [1, 2, 3]),
+    withholds("both of a wrong mark", [&[0x47], &[0x47]], 9, [2, 1, 0]),
+    withholds("a bad cube in g", [CONJ, FIVE], 9, [5, 2, 7]),
+    withholds("on and off at once in f", [SEVEN, CONJ], 9, [7, 1, 7]),
+];

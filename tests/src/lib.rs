@@ -9,14 +9,16 @@
 //! - `records`: the calls on function records, held against the reference;
 //! - `wirings`: the call for dead pairs under a partial wiring, likewise;
 //! - `claims`: the checker, likewise;
+//! - `matches`: the matcher, likewise;
 //! - `cases`: the small functions and cases that 01 names, with its numbers;
+//! - `lent`: slices lent to a call, with known elements in them and around them;
 //! - `tally`, `show`: what was compared, and how bytes and answers are printed.
-//!
-//! The matcher gets a module of the reference and a module beside `claims`.
 
 pub mod calls;
 pub mod cases;
 pub mod claims;
+pub mod lent;
+pub mod matches;
 pub mod random;
 pub mod records;
 pub mod reference;

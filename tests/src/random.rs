@@ -153,7 +153,7 @@ fn split_by_an_input(random: &mut Random, n: usize, sizes: [usize; 2]) -> Functi
 }
 
 /// Single patterns, each on or off at most once; all of them if they fit.
-fn from_points(random: &mut Random, n: usize, sizes: [usize; 2]) -> Function {
+pub fn from_points(random: &mut Random, n: usize, sizes: [usize; 2]) -> Function {
     let mut all: Vec<Cube> = patterns(n).map(|pattern| point(n, pattern)).collect();
     random.shuffle(&mut all);
     let on = sizes[0].min(all.len());
@@ -162,7 +162,7 @@ fn from_points(random: &mut Random, n: usize, sizes: [usize; 2]) -> Function {
 }
 
 /// On or off everywhere by a cube without literals; the other list is empty.
-fn constant(random: &mut Random, n: usize, size: usize) -> Function {
+pub fn constant(random: &mut Random, n: usize, size: usize) -> Function {
     let mut f = one_sided(random, n, size.max(1));
     let list = if f.on.is_empty() { &mut f.off } else { &mut f.on };
     let at = random.below(list.len());
@@ -171,7 +171,7 @@ fn constant(random: &mut Random, n: usize, size: usize) -> Function {
 }
 
 /// Any cubes in one list; the other is empty.
-fn one_sided(random: &mut Random, n: usize, size: usize) -> Function {
+pub fn one_sided(random: &mut Random, n: usize, size: usize) -> Function {
     let list: Vec<Cube> = (0..size).map(|_| any_cube(random, n)).collect();
     let on = random.flip();
     with_one_list(n, list, on)

@@ -39,6 +39,11 @@ impl Tally {
         // compared belongs in every log.
         let mut out = io::stdout();
         write!(out, "\n{self}").expect("standard output takes the tally");
+        self.demand(wanted, floor);
+    }
+
+    /// The same without a word where nothing is missing.
+    pub fn demand(&self, wanted: &[(&'static str, &[u64])], floor: u64) {
         let missing = wanted.iter().flat_map(|&(call, codes)| self.missing(call, codes, floor));
         let missing: Vec<String> = missing.collect();
         assert!(missing.is_empty(), "too few cases:\n{}", missing.join("\n"));

@@ -2,7 +2,7 @@
 
 use zap_tests::calls;
 use zap_tests::cases::CLAIMS;
-use zap_tests::claims::trees::{forged, refused_pair};
+use zap_tests::claims::trees::{forged, refused_pair, split_everywhere};
 use zap_tests::claims::{sweeps, Trial};
 use zap_tests::claims::{BEYOND, CHECK, CLOSED, CUT, HEADER_CUT, HEADER_MARK, MATCHES};
 use zap_tests::claims::{
@@ -12,7 +12,7 @@ use zap_tests::random::Random;
 use zap_tests::reference::agreement::Tables;
 use zap_tests::reference::answer::{Answer, NO_MATCH, OF_CLAIM};
 use zap_tests::reference::checker::check_in;
-use zap_tests::reference::claim::{refusal_claim, Tree, REFUSAL_MARK, SPLIT};
+use zap_tests::reference::claim::{refusal_claim, Tree, REFUSAL_MARK};
 use zap_tests::reference::wiring::wirings;
 use zap_tests::show::{self, hex};
 use zap_tests::tally;
@@ -72,7 +72,7 @@ fn the_longest_claim_of_01() {
     let mut claim = REFUSAL_MARK.to_vec();
     claim.push(8);
     for _ in 0..2 {
-        split_everywhere(8, &mut claim);
+        split_everywhere(8, [[0, 0, 0]; 2], &mut claim);
     }
     assert_eq!(claim.len(), LENGTH);
     claim.push(0);
@@ -80,18 +80,6 @@ fn the_longest_claim_of_01() {
     expect("the longest", check(LENGTH), Answer::accepted(NO_MATCH, LENGTH));
     expect("cut", check(LENGTH - 1), Answer::refused(1, OF_CLAIM, LENGTH - 1));
     expect("and more", check(LENGTH + 1), Answer::refused(8, OF_CLAIM, LENGTH));
-}
-
-/// A tree with so many inputs unplaced.
-fn split_everywhere(unplaced: usize, claim: &mut Vec<u8>) {
-    if unplaced == 0 {
-        claim.extend([0, 0, 0]);
-    } else {
-        claim.push(SPLIT);
-        for _ in 0..2 * unplaced {
-            split_everywhere(unplaced - 1, claim);
-        }
-    }
 }
 
 fn expect(input: &str, got: u64, want: Answer) {

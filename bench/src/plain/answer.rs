@@ -3,6 +3,10 @@
 pub const F: u8 = 1;
 pub const G: u8 = 2;
 pub const CLAIM: u8 = 3;
+pub const BUFFER: u8 = 4;
+
+pub const MATCH: u8 = 1;
+pub const NO_MATCH: u8 = 2;
 
 pub enum Answer {
     Accepted { kind: u8, place: usize },

@@ -1,30 +1,19 @@
 //! The checker: a claim is read once, from its start to its end.
 
-use super::answer::{Answer, Refusal, CLAIM};
-use super::function::{read_two, Cube, Function};
+use super::answer::{Answer, Refusal, CLAIM, MATCH, NO_MATCH};
+use super::function::{read_two, Cube, Cubes, Lists};
 use super::wiring::Wiring;
-
-const MATCH: u8 = 1;
-const NO_MATCH: u8 = 2;
-const SPLIT: u8 = 0xFF;
+use super::SPLIT;
 
 pub fn check(f: &[u8], g: &[u8], claim: &[u8]) -> Answer {
-    let kind = read_two(f, g).and_then(|(f, g)| {
-        let mut reader = Reader { lists: lists(&f, &g), n: f.n, claim, place: 0 };
+    let kind = read_two(f, g).and_then(|two| {
+        let mut reader = Reader { lists: two.lists, n: two.n, claim, place: 0 };
         reader.claim()
     });
     match kind {
         Ok(kind) => Answer::Accepted { kind, place: claim.len() },
         Err(refusal) => Answer::Refused(refusal),
     }
-}
-
-/// A list of f and the list of g that it must be kept apart from.
-type Lists<'a> = (&'a [Cube], &'a [Cube]);
-
-/// By q, then by s.
-fn lists<'a>(f: &'a Function, g: &'a Function) -> [[Lists<'a>; 2]; 2] {
-    [[(&f.on, &g.off), (&f.off, &g.on)], [(&f.on, &g.on), (&f.off, &g.off)]]
 }
 
 struct Reader<'a> {
@@ -96,8 +85,8 @@ impl Reader<'_> {
         }
         let agrees = self.lists[q as usize].iter().all(|(of_f, of_g)| {
             of_f.iter().all(|one| {
-                let carried = wiring.carry(*one);
-                of_g.iter().all(|other| carried.apart(*other))
+                let carried = wiring.carry(one);
+                of_g.iter().all(|other| carried.apart(other))
             })
         });
         if agrees {
@@ -112,9 +101,10 @@ impl Reader<'_> {
         match self.byte()? {
             SPLIT if wiring.is_whole() => Err(refused(16, start)),
             SPLIT => {
-                for j in (0..self.n).filter(|&j| !wiring.uses(j)) {
-                    self.tree(q, wiring.place(j, false))?;
-                    self.tree(q, wiring.place(j, true))?;
+                for j in wiring.free() {
+                    for inverted in [false, true] {
+                        self.tree(q, wiring.place(j, inverted))?;
+                    }
                 }
                 Ok(())
             }
@@ -133,9 +123,9 @@ impl Reader<'_> {
     }
 
     /// The cube that the next byte names.
-    fn cube(&mut self, list: &[Cube]) -> Result<Cube, Refusal> {
+    fn cube(&mut self, list: Cubes) -> Result<Cube, Refusal> {
         let place = self.place;
         let index = self.byte()?;
-        list.get(index as usize).copied().ok_or(refused(15, place))
+        list.get(index as usize).ok_or(refused(15, place))
     }
 }

@@ -1,4 +1,4 @@
-//! Function records, read into cubes.
+//! Function records: a function is its record, tested.
 
 use super::answer::{Refusal, F, G};
 
@@ -20,24 +20,54 @@ impl Cube {
     }
 }
 
-pub struct Function {
-    pub n: u8,
-    pub on: Vec<Cube>,
-    pub off: Vec<Cube>,
+/// A list of cubes: a part of a record, P then N of each cube.
+#[derive(Clone, Copy)]
+pub struct Cubes<'a>(&'a [[u8; 2]]);
+
+impl<'a> Cubes<'a> {
+    pub fn get(self, index: usize) -> Option<Cube> {
+        self.0.get(index).map(|&[p, n]| Cube { p, n })
+    }
+
+    pub fn iter(self) -> impl Iterator<Item = Cube> + 'a {
+        self.0.iter().map(|&[p, n]| Cube { p, n })
+    }
+
+    fn split_at(self, index: usize) -> (Cubes<'a>, Cubes<'a>) {
+        let (one, other) = self.0.split_at(index);
+        (Cubes(one), Cubes(other))
+    }
 }
+
+pub struct Function<'a> {
+    pub n: u8,
+    pub on: Cubes<'a>,
+    pub off: Cubes<'a>,
+}
+
+/// Two functions of the same number of inputs.
+pub struct Two<'a> {
+    pub n: u8,
+    /// By q, then by s.
+    pub lists: [[Lists<'a>; 2]; 2],
+}
+
+/// A list of f and the list of g that it must be kept apart from.
+pub type Lists<'a> = (Cubes<'a>, Cubes<'a>);
 
 const CUBES: usize = 5;
 
-/// Both functions, of the same number of inputs.
-pub fn read_two(f: &[u8], g: &[u8]) -> Result<(Function, Function), Refusal> {
+/// Both functions, which must not differ in the number of inputs.
+pub fn read_two<'a>(f: &'a [u8], g: &'a [u8]) -> Result<Two<'a>, Refusal> {
     let (f, g) = (read(f, F)?, read(g, G)?);
     if f.n != g.n {
         return Err(Refusal { code: 9, record: G, place: 2 });
     }
-    Ok((f, g))
+    let lists = [[(f.on, g.off), (f.off, g.on)], [(f.on, g.on), (f.off, g.off)]];
+    Ok(Two { n: f.n, lists })
 }
 
-pub fn read(bytes: &[u8], record: u8) -> Result<Function, Refusal> {
+fn read(bytes: &[u8], record: u8) -> Result<Function<'_>, Refusal> {
     let refused = |code, place| Refusal { code, record, place };
     let byte = |place: usize| bytes.get(place).copied().ok_or(refused(1, bytes.len()));
 
@@ -67,9 +97,8 @@ pub fn read(bytes: &[u8], record: u8) -> Result<Function, Refusal> {
         return Err(refused(8, end));
     }
 
-    let mut on: Vec<Cube> =
-        bytes[CUBES..].chunks_exact(2).map(|two| Cube { p: two[0], n: two[1] }).collect();
-    for (index, cube) in on.iter().enumerate() {
+    let cubes = Cubes(bytes[CUBES..].as_chunks().0);
+    for (index, cube) in cubes.iter().enumerate() {
         if u32::from(cube.inputs()) >> n != 0 {
             return Err(refused(5, CUBES + 2 * index));
         }
@@ -77,8 +106,8 @@ pub fn read(bytes: &[u8], record: u8) -> Result<Function, Refusal> {
             return Err(refused(6, CUBES + 2 * index));
         }
     }
-    let off = on.split_off(a);
-    match on.iter().position(|one| off.iter().any(|other| !one.apart(*other))) {
+    let (on, off) = cubes.split_at(a);
+    match on.iter().position(|one| off.iter().any(|other| !one.apart(other))) {
         Some(index) => Err(refused(7, CUBES + 2 * index)),
         None => Ok(Function { n, on, off }),
     }

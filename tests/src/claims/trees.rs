@@ -1,7 +1,7 @@
 //! Refusal claims of several shapes, and pairs of functions for them.
 
 use crate::random::Random;
-use crate::reference::claim::{refusal_claim, Tree, TREES};
+use crate::reference::claim::{refusal_claim, Tree, SPLIT, TREES};
 use crate::reference::pair::Pair;
 use crate::reference::pattern::{Cube, Function};
 use crate::reference::two::Two;
@@ -67,6 +67,19 @@ pub fn forged(random: &mut Random, two: &Two) -> Vec<u8> {
         Tree::grown(&Partial::empty(two.n()), &mut close).expect("every whole wiring is closed")
     });
     refusal_claim(two.n(), &trees)
+}
+
+/// Writes a tree that splits wherever it may, with so many inputs unplaced, 1 or
+/// more. Its closings are those for the last input plain and inverted.
+pub fn split_everywhere(unplaced: usize, closings: [[u8; 3]; 2], claim: &mut Vec<u8>) {
+    claim.push(SPLIT);
+    if unplaced == 1 {
+        claim.extend(closings.concat());
+        return;
+    }
+    for _ in 0..2 * unplaced {
+        split_everywhere(unplaced - 1, closings, claim);
+    }
 }
 
 /// Where the closings of a refusal claim start, each with its q.

@@ -7,6 +7,7 @@
 pub mod sweeps;
 
 use crate::calls::RecordCalls;
+use crate::lent::{byte, inside, lent, word};
 use crate::reference::answer::Answer;
 use crate::reference::fault::{self, Owner};
 use crate::reference::record;
@@ -139,32 +140,4 @@ fn compare_numbers(
         show::answer(want),
         show::answer(Answer::unpacked(got)),
     ))
-}
-
-// ---- Lent slices ----
-
-/// A lent slice lies between elements that nobody lent, so that a store outside
-/// it is seen too.
-const SIDE: usize = 4;
-
-/// Known elements, with what is expected at the start of the lent slice.
-fn lent<T: Copy>(len: usize, fill: fn(usize) -> T, start: &[T]) -> Vec<T> {
-    let mut all: Vec<T> = (0..SIDE + len + SIDE).map(fill).collect();
-    all[SIDE..SIDE + start.len()].copy_from_slice(start);
-    all
-}
-
-/// The lent slice itself.
-fn inside<T>(all: &mut [T]) -> &mut [T] {
-    let end = all.len() - SIDE;
-    &mut all[SIDE..end]
-}
-
-/// Elements that no answer is likely to hold, and no two neighbours alike.
-fn byte(at: usize) -> u8 {
-    (0xA5 + 29 * at % 256) as u8
-}
-
-fn word(at: usize) -> u64 {
-    0xA5A5_A5A5_0000_0000 + at as u64
 }

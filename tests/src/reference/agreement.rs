@@ -60,6 +60,7 @@ impl Tables {
 mod tests {
     use super::*;
     use crate::cases::{CONJ, CONST, DISJ, ODD, OPEN, WIRE};
+    use crate::cases::{EXAMPLE_2_1, EXAMPLE_3_2, WIRINGS_OF_3_3, WIRING_OF_2_1};
     use crate::reference::two::two;
     use crate::reference::wiring::wirings;
 
@@ -89,5 +90,20 @@ mod tests {
         assert_eq!(agreeing(OPEN, WIRE)[0], (0, vec![0x00]));
         assert!(agreeing(OPEN, WIRE).contains(&(0, vec![0x10])));
         assert_eq!(agreeing(WIRE, WIRE), [(0, vec![0x00]), (1, vec![0x10])]);
+    }
+
+    /// Examples 2.1 and 3.3 of the paper. In 3.3 inputs are permuted alone, and then
+    /// there are just two wirings.
+    #[test]
+    fn the_examples_of_the_paper() {
+        let wiring = |claim: &[u8]| (claim[3], claim[4..].to_vec());
+        let [f, g] = EXAMPLE_2_1;
+        assert!(agreeing(f, g).contains(&wiring(WIRING_OF_2_1)));
+        let [f, g] = EXAMPLE_3_2;
+        let mut permuted = agreeing(f, g);
+        permuted.retain(|(q, bytes)| *q == 0 && bytes.iter().all(|&byte| byte < 16));
+        let mut named = WIRINGS_OF_3_3.map(wiring);
+        named.sort();
+        assert_eq!(permuted, named);
     }
 }

@@ -25,7 +25,7 @@ pub fn dead_by_the_rule(partial: &Partial, of_f: Cube, of_g: Cube) -> bool {
 }
 
 /// Up to so many inputs there are few enough completions, 384 at most.
-const TRIED: usize = 4;
+pub const TRIED: usize = 4;
 
 /// Whether a pair is dead under a partial wiring: by its completions for few
 /// inputs, by the rule for more.

@@ -10,6 +10,7 @@ pub mod checker;
 pub mod claim;
 pub mod dead;
 pub mod fault;
+pub mod matcher;
 pub mod pair;
 pub mod pattern;
 pub mod record;

@@ -80,6 +80,14 @@ impl Partial {
         self.free().into_iter().flat_map(|choice| self.with(choice).completions()).collect()
     }
 
+    /// The first of them that passes a test: the others are not made.
+    pub fn first_completion(&self, test: &dyn Fn(&Partial) -> bool) -> Option<Partial> {
+        if self.is_whole() {
+            return test(self).then(|| self.clone());
+        }
+        self.free().into_iter().find_map(|choice| self.with(choice).first_completion(test))
+    }
+
     /// This one and all longer ones that start like it: each comes before those
     /// that it is the start of, as the nodes of a claim's tree do.
     pub fn continuations(&self) -> Vec<Partial> {
@@ -157,6 +165,21 @@ mod tests {
             for q in [false, true] {
                 let found: Vec<Vec<Choice>> = under(q).map(|wiring| wiring.inputs.placed).collect();
                 assert_eq!(found, strings, "n {n}");
+            }
+        }
+    }
+
+    #[test]
+    fn the_first_completion_is_the_first_of_all() {
+        for n in 1..=4 {
+            for start in Partial::empty(n).continuations() {
+                let all = start.completions();
+                // Whichever of them a test lets through, and none.
+                for least in 0..=all.len() {
+                    let least = all.get(least);
+                    let first = start.first_completion(&|one| least.is_some_and(|it| one >= it));
+                    assert_eq!(first.as_ref(), least, "{start:?}");
+                }
             }
         }
     }

@@ -62,6 +62,27 @@ pub fn neighbour(random: &mut Random, wiring: &Wiring) -> Wiring {
     other
 }
 
+/// Each input to the input of the same number, plain.
+pub fn straight(n: usize) -> Partial {
+    Partial { n, placed: (0..n).map(|j| Choice { j, inverted: false }).collect() }
+}
+
+/// The byte at place i taken to say which input of f serves input i of g. The wiring
+/// is whole.
+pub fn the_wrong_way_round(inputs: &Partial) -> Partial {
+    let mut placed = inputs.placed.clone();
+    for (i, choice) in inputs.placed.iter().enumerate() {
+        placed[choice.j] = Choice { j: i, inverted: choice.inverted };
+    }
+    Partial { n: inputs.n, placed }
+}
+
+/// The same choices, all plain.
+pub fn without_inversions(partial: &Partial) -> Partial {
+    let plain = |choice: &Choice| Choice { inverted: false, ..*choice };
+    Partial { n: partial.n, placed: partial.placed.iter().map(plain).collect() }
+}
+
 /// The choices for the first inputs alone.
 pub fn start(inputs: &Partial, length: usize) -> Partial {
     Partial { n: inputs.n, placed: inputs.placed[..length].to_vec() }
@@ -70,13 +91,30 @@ pub fn start(inputs: &Partial, length: usize) -> Partial {
 // ---- Functions that fit ----
 
 /// A function that f agrees with under the wiring: cubes of f carried over, some
-/// left out, some with more literals. Under q = 1 the lists change places.
+/// left out, some with more literals.
 fn fitting(random: &mut Random, f: &Function, wiring: &Wiring) -> Function {
+    carried_over(random, f, wiring, 1, narrowed)
+}
+
+/// The copy of f under the wiring, with so many in six of its cubes left out.
+pub fn copied(random: &mut Random, f: &Function, wiring: &Wiring, left_out: usize) -> Function {
+    carried_over(random, f, wiring, left_out, |_, _, cube| cube)
+}
+
+/// The cubes of f carried over, so many in six left out and the others changed. Under
+/// q = 1 the lists change places.
+fn carried_over(
+    random: &mut Random,
+    f: &Function,
+    wiring: &Wiring,
+    left_out: usize,
+    change: fn(&mut Random, usize, Cube) -> Cube,
+) -> Function {
     let mut list = |cubes: &[Cube]| -> Vec<Cube> {
         let mut list = vec![];
         for &cube in cubes {
-            if random.below(6) > 0 {
-                list.push(narrowed(random, f.n, carried(cube, &wiring.inputs)));
+            if random.below(6) >= left_out {
+                list.push(change(random, f.n, carried(cube, &wiring.inputs)));
             }
         }
         random.shuffle(&mut list);
@@ -184,6 +222,20 @@ mod tests {
                 agree += Tables::of(&made).agree(wiring.q, &wiring.inputs) as usize;
             }
             assert!((100..300).contains(&agree), "n {n}: {agree} of 300");
+        }
+    }
+
+    #[test]
+    fn a_function_agrees_with_its_copy() {
+        let mut random = Random::new(15);
+        for n in 1..=8 {
+            for round in 0..100 {
+                let f = function_of(&mut random, n, few);
+                let wiring = any_wiring(&mut random, n);
+                let g = copied(&mut random, &f, &wiring, round % 4);
+                let two = Two { f, g };
+                assert!(Tables::of(&two).agree(wiring.q, &wiring.inputs), "{two:?} {wiring:?}");
+            }
         }
     }
 

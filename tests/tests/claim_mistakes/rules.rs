@@ -12,6 +12,7 @@ use zap_tests::reference::pair::{asks, separates, Pair};
 use zap_tests::reference::pattern::Cube;
 use zap_tests::reference::two::{two, Two};
 use zap_tests::reference::wiring::{Choice, Partial};
+use zap_tests::wirings::pairs::{the_wrong_way_round, without_inversions};
 
 use super::answers::refused;
 use super::Mistake;
@@ -168,20 +169,6 @@ fn agreement() -> Vec<Mistake> {
             sweeps::match_claims,
         ),
     ]
-}
-
-/// The byte at place i taken to say which input of f serves input i of g.
-fn the_wrong_way_round(inputs: &Partial) -> Partial {
-    let mut placed = inputs.placed.clone();
-    for (i, choice) in inputs.placed.iter().enumerate() {
-        placed[choice.j] = Choice { j: i, inverted: choice.inverted };
-    }
-    Partial { n: inputs.n, placed }
-}
-
-fn without_inversions(partial: &Partial) -> Partial {
-    let plain = |choice: &Choice| Choice { inverted: false, ..*choice };
-    Partial { n: partial.n, placed: partial.placed.iter().map(plain).collect() }
 }
 
 fn trees() -> Vec<Mistake> {
