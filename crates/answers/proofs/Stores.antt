@@ -82,7 +82,7 @@ pub delivered-refusal : (a : Answer) (bytes before : List ℕ) (r : Answer) → 
 delivered-refusal a bytes before r e bad =
     record { returned = e; buffer = sym (after-refused a bytes before (λ z. bad (ap (λ (x : Answer). x .code) e ∙ z))) }
 
-pub delivered-bytes : (a : Answer) (bytes before after : List ℕ) (r : Answer) → r ≡ a → r .code ≡ 0 → after ≡ sets before 0 bytes → Delivered a bytes before after r
+delivered-bytes : (a : Answer) (bytes before after : List ℕ) (r : Answer) → r ≡ a → r .code ≡ 0 → after ≡ sets before 0 bytes → Delivered a bytes before after r
 delivered-bytes a bytes before after r e good stored =
     record { returned = e; buffer = stored ∙ sym (after-accepted a bytes before (ap (λ (x : Answer). x .code) (sym e) ∙ good)) }
 

@@ -21,9 +21,12 @@ use Rattle.claims.proofs.Reading.{onward-next, onward-stop}
 use Rattle.checker.specs.Checking.{closing-fault, tree-fault}
 
 module _ (n q : ℕ) (f g c w : List ℕ) where
-  -- the trees of the choices that are offered from place k of the order on
+  -- the trees of some choices, and of those that are offered from place k of the order on
+  abbrev pub each-read : List ℕ → ℕ → Fault
+  each-read l = in-turn (λ b. tree-fault n q f g c (w adding b)) l
+
   unfoldable pub children : ℕ → ℕ → Fault
-  children k at = in-turn (λ b. tree-fault n q f g c (w adding b)) (offered n w k) at
+  children k at = each-read (offered n w k) at
 
   module _ (at : ℕ) where
     -- no byte is there
@@ -83,7 +86,7 @@ module _ (r : Wiring) (q : ℕ) (f g c : List ℕ) where
     module _ (start k at b : ℕ) (so-far : Reading start k at) (h : k < 2 * n) (is : b ≡ choice-at k) where
       pub passed-over : may-place r b ≡ false → Reading start (k + 1) at
       unfolding children
-      passed-over e = record { within = omega arith; rest = ap (λ (l : List ℕ). in-turn (λ b. tree-fault n q f g c (w adding b)) l at) (sym (passes-over r s k b h is e)) ∙ so-far .rest }
+      passed-over e = record { within = omega arith; rest = ap (λ (l : List ℕ). each-read n q f g c w l at) (sym (passes-over r s k b h is e)) ∙ so-far .rest }
 
       module _ (may : may-place r b ≡ true) (r′ : Wiring) (placed : StandsFor r′ n (w adding b)) (child : Fault) (read : child ≡ tree-fault (r′ .n) q f g c (prefix r′) at) where
         -- the child's tree, and those after it
@@ -92,7 +95,7 @@ module _ (r : Wiring) (q : ℕ) (f g c : List ℕ) where
         through-child =
             ap (λ (x : Fault). x onward children n q f g c w (k + 1))
             (read ∙ stands-as r′ n (w adding b) placed (λ m v. tree-fault m q f g c v at))
-            ∙ ap (λ (l : List ℕ). in-turn (λ b. tree-fault n q f g c (w adding b)) l at) (sym (takes r s k b h is may)) ∙ so-far .rest
+            ∙ ap (λ (l : List ℕ). each-read n q f g c w l at) (sym (takes r s k b h is may)) ∙ so-far .rest
 
         pub child-read : child .code ≡ 0 → Reading start (k + 1) (child .place)
         child-read e = record { within = omega arith; rest = sym (onward-next child (children n q f g c w (k + 1)) e) ∙ through-child }
@@ -102,4 +105,4 @@ module _ (r : Wiring) (q : ℕ) (f g c : List ℕ) where
 
     pub all-read : (start k at : ℕ) → Reading start k at → 2 * n ≤ k → read-to at ≡ tree-fault n q f g c w start
     unfolding children in-turn
-    all-read start k at so-far h = ap (λ (l : List ℕ). in-turn (λ b. tree-fault n q f g c (w adding b)) l at) (sym (offered-end n w k h)) ∙ so-far .rest
+    all-read start k at so-far h = ap (λ (l : List ℕ). each-read n q f g c w l at) (sym (offered-end n w k h)) ∙ so-far .rest
