@@ -1,8 +1,7 @@
 -- The tree at a place, case by case, and the trees of a split, choice by choice. The idea: what is left to be read of a split's
 -- trees, from choice k of the order on, is the whole answer.
 use Prim.Native.Nat.{ℕ, zero, suc, _+_, _-_, _*_, _≤_, _<_}
-use mathlib.Core.Path.{_≡_, sym, ap, _∙_, fun-ext}
-use mathlib.Core.Bool.{true, false}
+use mathlib.Core.Path.{_≡_, refl, sym, ap, _∙_, fun-ext}
 use mathlib.Core.List.{List, [], _∷_}
 use native.Mathlib.Omega.{arith}
 use borrow.Author.Tests.{le-leb, lt-leb, eq-eqb, ne-eqb}
@@ -13,9 +12,9 @@ use Rattle.rules.specs.Rules.{_adding_, next}
 use Rattle.wirings.specs.Wirings.{straight, choice-at}
 use Rattle.wirings.proofs.Choices.{offered, offered-end}
 use Rattle.partial.specs.declared.Wiring.{Wiring}
-use Rattle.partial.specs.Partial.{StandsFor, Formed, prefix, may-place}
+use Rattle.partial.specs.Partial.{StandsFor, Formed, prefix, offer-from}
 use Rattle.partial.proofs.Standing.{stands-as}
-use Rattle.partial.proofs.Steps.{passes-over, takes}
+use Rattle.partial.proofs.Steps.{Next, goes-on, takes, begins, begins-all}
 use Rattle.claims.specs.Reading.{read-to, _onward_, in-turn, read-tree}
 use Rattle.claims.proofs.Reading.{onward-next, onward-stop}
 use Rattle.checker.specs.Checking.{closing-fault, tree-fault}
@@ -79,29 +78,28 @@ module _ (r : Wiring) (q : ℕ) (f g c : List ℕ) where
 
   -- the trees before choice k are read, up to `at`; what is left is the whole answer
   pub record Reading (start k at : ℕ) : Type 0 where
-    pub within : k ≤ 2 * n
+    pub next : Next n w k
     pub rest : children n q f g c w k at ≡ tree-fault n q f g c w start
 
   module _ (s : Formed r) where
-    module _ (start k at b : ℕ) (so-far : Reading start k at) (h : k < 2 * n) (is : b ≡ choice-at k) where
-      pub passed-over : may-place r b ≡ false → Reading start (k + 1) at
-      unfolding children
-      passed-over e = record { within = omega arith; rest = ap (λ (l : List ℕ). each-read n q f g c w l at) (sym (passes-over r s k b h is e)) ∙ so-far .rest }
+    pub reading-start : (start k at : ℕ) → k ≡ offer-from n w 0 → children n q f g c w 0 at ≡ tree-fault n q f g c w start → Reading start k at
+    unfolding children
+    reading-start start k at first e = record { next = begins r s k first; rest = ap (λ (l : List ℕ). each-read n q f g c w l at) (sym (begins-all r s k first)) ∙ e }
 
-      module _ (may : may-place r b ≡ true) (r′ : Wiring) (placed : StandsFor r′ n (w adding b)) (child : Fault) (read : child ≡ tree-fault (r′ .n) q f g c (prefix r′) at) where
-        -- the child's tree, and those after it
-        through-child : child onward children n q f g c w (k + 1) ≡ tree-fault n q f g c w start
-        unfolding children in-turn
-        through-child =
-            ap (λ (x : Fault). x onward children n q f g c w (k + 1))
-            (read ∙ stands-as r′ n (w adding b) placed (λ m v. tree-fault m q f g c v at))
-            ∙ ap (λ (l : List ℕ). each-read n q f g c w l at) (sym (takes r s k b h is may)) ∙ so-far .rest
+    module _ (start k at b : ℕ) (so-far : Reading start k at) (h : k < 2 * n) (is : b ≡ choice-at k) (r′ : Wiring) (placed : StandsFor r′ n (w adding b)) (child : Fault)
+        (read : child ≡ tree-fault (r′ .n) q f g c (prefix r′) at) where
+      -- the child's tree, and those after it
+      through-child : (k′ : ℕ) → k′ ≡ offer-from n w (k + 1) → child onward children n q f g c w k′ ≡ tree-fault n q f g c w start
+      unfolding children in-turn
+      through-child k′ next =
+          ap (λ (x : Fault). x onward children n q f g c w k′) (read ∙ stands-as r′ n (w adding b) placed (λ m v. tree-fault m q f g c v at))
+          ∙ ap (λ (l : List ℕ). each-read n q f g c w l at) (sym (takes r s k b h is (so-far .next) k′ next)) ∙ so-far .rest
 
-        pub child-read : child .code ≡ 0 → Reading start (k + 1) (child .place)
-        child-read e = record { within = omega arith; rest = sym (onward-next child (children n q f g c w (k + 1)) e) ∙ through-child }
+      pub child-read : child .code ≡ 0 → (k′ : ℕ) → k′ ≡ offer-from n w (k + 1) → Reading start k′ (child .place)
+      child-read e k′ next = record { next = goes-on r s k b h is (so-far .next) k′ next; rest = sym (onward-next child (children n q f g c w k′) e) ∙ through-child k′ next }
 
-        pub child-refused : (child .code ≡ 0 → ⊥) → child ≡ tree-fault n q f g c w start
-        child-refused e = sym (onward-stop child (children n q f g c w (k + 1)) e) ∙ through-child
+      pub child-refused : (child .code ≡ 0 → ⊥) → child ≡ tree-fault n q f g c w start
+      child-refused e = let k′ = offer-from n w (k + 1) in sym (onward-stop child (children n q f g c w k′) e) ∙ through-child k′ refl
 
     pub all-read : (start k at : ℕ) → Reading start k at → 2 * n ≤ k → read-to at ≡ tree-fault n q f g c w start
     unfolding children in-turn

@@ -182,18 +182,14 @@ fn tree(w: Wiring, q: u8, f: &[u8], g: &[u8], claim: &[u8], start: usize) -> Fau
         };
     }
     let mut next = start + 1;
-    let mut c = 0u8;
+    let mut c = w.offer(0);
     while c < 2 * w.n {
-        let choice = partial::choice(c);
-        c += 1;
-        if !w.free(choice) {
-            continue;
-        }
-        let child = tree(w.place(choice), q, f, g, claim, next);
+        let child = tree(w.place(partial::choice(c)), q, f, g, claim, next);
         if child.code != 0 {
             return child;
         }
         next = child.place;
+        c = w.offer(c + 1);
     }
     Fault {
         code: 0,

@@ -21,9 +21,9 @@ use Rattle.wirings.proofs.Choices.{free-number, offered}
 use Rattle.wirings.proofs.Death.{some-dead, found-dead, first-dead-none, death}
 use Rattle.partial.specs.declared.Wiring.{Wiring}
 use Rattle.partial.specs.declared.Found.{Found}
-use Rattle.partial.specs.Partial.{StandsFor, Formed, prefix, may-place, found}
+use Rattle.partial.specs.Partial.{StandsFor, Formed, prefix, offer-from, found}
 use Rattle.partial.proofs.Standing.{stands-as, placed-within}
-use Rattle.partial.proofs.Steps.{takes}
+use Rattle.partial.proofs.Steps.{Next, takes}
 use Rattle.partial.proofs.Rows.{found-some, found-none, found-as}
 use Rattle.claims.specs.Trees.{Tree, end, tree-bytes, trees-bytes, closed-by, tree-each, own, longest-tree}
 use Rattle.claims.specs.Claims.{own-tree}
@@ -148,13 +148,13 @@ module _ (r : Wiring) (q : ℕ) (f g : List ℕ) (s : Formed r) where
   pub opened-node : found (first-dead n q f g w) .found ≡ false → node-bytes n q f g w ≡ 0xFF ∷ branches n q f g w (offered n w 0)
   opened-node e = opened n q f g w (s .few) (s .allowed) (found-none (first-dead n q f g w) e)
 
-  -- a choice that may follow, and the wiring that has it: its tree comes first, then those of the choices after it
-  module _ (k b : ℕ) (h : k < 2 * n) (is : b ≡ choice-at k) (may : may-place r b ≡ true) (r′ : Wiring) (placed : StandsFor r′ n (w adding b)) where
-    pub branches-on : branches n q f g w (offered n w k) ≡ node-bytes (r′ .n) q f g (prefix r′) ++ branches n q f g w (offered n w (k + 1))
+  -- the choice at a place that is offered, and the wiring that has it: its tree comes first, then those of the choices after it
+  module _ (k b : ℕ) (h : k < 2 * n) (is : b ≡ choice-at k) (here : Next n w k) (r′ : Wiring) (placed : StandsFor r′ n (w adding b)) (k′ : ℕ) (next : k′ ≡ offer-from n w (k + 1)) where
+    pub branches-on : branches n q f g w (offered n w k) ≡ node-bytes (r′ .n) q f g (prefix r′) ++ branches n q f g w (offered n w k′)
     unfolding tree-each trees-bytes
     branches-on =
-        ap (branches n q f g w) (takes r s k b h is may)
-        ∙ sym (stands-as r′ n (w adding b) placed (λ m v. node-bytes m q f g v ++ branches n q f g w (offered n w (k + 1))))
+        ap (branches n q f g w) (takes r s k b h is here k′ next)
+        ∙ sym (stands-as r′ n (w adding b) placed (λ m v. node-bytes m q f g v ++ branches n q f g w (offered n w k′)))
 
-    pub branches-long : length (branches n q f g w (offered n w k)) ≡ length (node-bytes (r′ .n) q f g (prefix r′)) + length (branches n q f g w (offered n w (k + 1)))
-    branches-long = ap length branches-on ∙ length-append (node-bytes (r′ .n) q f g (prefix r′)) (branches n q f g w (offered n w (k + 1)))
+    pub branches-long : length (branches n q f g w (offered n w k)) ≡ length (node-bytes (r′ .n) q f g (prefix r′)) + length (branches n q f g w (offered n w k′))
+    branches-long = ap length branches-on ∙ length-append (node-bytes (r′ .n) q f g (prefix r′)) (branches n q f g w (offered n w k′))

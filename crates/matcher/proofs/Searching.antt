@@ -16,9 +16,9 @@ use Rattle.wirings.specs.Pairs.{first-dead}
 use Rattle.wirings.proofs.Choices.{offered, offered-end}
 use Rattle.wirings.proofs.Death.{some-dead}
 use Rattle.partial.specs.declared.Wiring.{Wiring}
-use Rattle.partial.specs.Partial.{StandsFor, Formed, prefix, may-place, as-number, found}
+use Rattle.partial.specs.Partial.{StandsFor, Formed, prefix, offer-from, as-number, found}
 use Rattle.partial.proofs.Standing.{stands-as, stands-choices}
-use Rattle.partial.proofs.Steps.{depth-is, left-over, passes-over, takes}
+use Rattle.partial.proofs.Steps.{Next, goes-on, takes, begins, begins-all, depth-is, left-over}
 use Rattle.partial.proofs.Rows.{found-some, found-none}
 use Rattle.claims.specs.Trees.{trees-bytes, tree-each}
 use Rattle.matcher.specs.declared.Outcome.{Outcome}
@@ -63,7 +63,7 @@ module _ (r : Wiring) (q : ℕ) (f g : List ℕ) where
 
   -- the choices before k gave none, and FF and their trees have so many bytes
   pub record Searching (k so-far : ℕ) : Type 0 where
-    pub within : k ≤ 2 * n
+    pub next : Next n w k
     pub rest : first-later k ≡ first-from n q f g w
     pub long : so-far + length (later k) ≡ length bytes
 
@@ -83,61 +83,53 @@ module _ (r : Wiring) (q : ℕ) (f g : List ℕ) where
           ∙ sym (ap (λ (o : Option (List ℕ)). searched o (length bytes)) (first-whole n q f g w (s .few) (s .allowed) d (depth-is r s ∙ h) (found-none (first-dead n q f g w) e)))
 
     -- any other is split: FF is one byte
-    pub searching-start : found (first-dead n q f g w) .found ≡ false → (r .depth ≡ n → ⊥) → Searching 0 1
-    searching-start e h = record {
-      within = omega arith;
-      rest = sym (first-further n q f g w (s .few) (s .allowed) (left-over r s h));
-      long = omega (arith, ap length (opened-node r q f g s e));
-    }
+    pub searching-start : found (first-dead n q f g w) .found ≡ false → (r .depth ≡ n → ⊥) → (k : ℕ) → k ≡ offer-from n w 0 → Searching k 1
+    searching-start e h k first =
+        let same = sym (begins-all r s k first) in
+        record {
+          next = begins r s k first;
+          rest = ap (first-among n q f g w) same ∙ sym (first-further n q f g w (s .few) (s .allowed) (left-over r s h));
+          long = ap (λ (l : List ℕ). 1 + length (branches n q f g w l)) same ∙ omega (arith, ap length (opened-node r q f g s e));
+        }
 
-    module _ (k b : ℕ) (h : k < 2 * n) (is : b ≡ choice-at k) (so-far : ℕ) (i : Searching k so-far) where
-      -- a choice that may not follow
-      pub search-skips : may-place r b ≡ false → Searching (k + 1) so-far
-      search-skips e =
-          let same = sym (passes-over r s k b h is e) in
-          record {
-            within = omega arith;
-            rest = ap (first-among n q f g w) same ∙ i .rest;
-            long = ap (λ (l : List ℕ). so-far + length (branches n q f g w l)) same ∙ i .long;
-          }
+    -- the choice at a place that is offered, and what the search of its child came to
+    module _ (k b : ℕ) (h : k < 2 * n) (is : b ≡ choice-at k) (so-far : ℕ) (i : Searching k so-far) (r′ : Wiring) (placed : StandsFor r′ n (w adding b)) (child : Outcome)
+        (came : child ≡ searched (first-from (r′ .n) q f g (prefix r′)) (length (node-bytes (r′ .n) q f g (prefix r′)))) where
+      abbrev child-first : Option (List ℕ)
+      child-first = first-from (r′ .n) q f g (prefix r′)
 
-      -- one that may, and what the search of its child came to
-      module _ (may : may-place r b ≡ true) (r′ : Wiring) (placed : StandsFor r′ n (w adding b)) (child : Outcome)
-          (came : child ≡ searched (first-from (r′ .n) q f g (prefix r′)) (length (node-bytes (r′ .n) q f g (prefix r′)))) where
-        abbrev child-first : Option (List ℕ)
-        child-first = first-from (r′ .n) q f g (prefix r′)
+      abbrev child-bytes : List ℕ
+      child-bytes = node-bytes (r′ .n) q f g (prefix r′)
 
-        abbrev child-bytes : List ℕ
-        child-bytes = node-bytes (r′ .n) q f g (prefix r′)
+      whole : (k′ : ℕ) → k′ ≡ offer-from n w (k + 1) → first-from n q f g w ≡ (child-first else first-later k′)
+      unfolding first-of
+      whole k′ next =
+          sym (i .rest) ∙ ap (first-among n q f g w) (takes r s k b h is (i .next) k′ next)
+          ∙ sym (stands-as r′ n (w adding b) placed (λ m v. first-from m q f g v else first-later k′))
 
-        whole : first-from n q f g w ≡ (child-first else first-later (k + 1))
-        unfolding first-of
-        whole =
-            sym (i .rest) ∙ ap (first-among n q f g w) (takes r s k b h is may)
-            ∙ sym (stands-as r′ n (w adding b) placed (λ m v. first-from m q f g v else first-later (k + 1)))
+      -- it gives the first
+      pub child-found : child .found ≡ true → Answers child
+      unfolding searched _else_
+      child-found e =
+          let x = came-some child-first (length child-bytes) child came e in
+          let k′ = offer-from n w (k + 1) in
+          came ∙ ap (λ (o : Option (List ℕ)). searched o (length child-bytes)) (x .1)
+          ∙ sym (ap (λ (o : Option (List ℕ)). searched o (length bytes)) (whole k′ refl ∙ ap (λ (o : Option (List ℕ)). o else first-later k′) (x .1)))
 
-        -- it gives the first
-        pub child-found : child .found ≡ true → Answers child
-        unfolding searched _else_
-        child-found e =
-            let x = came-some child-first (length child-bytes) child came e in
-            came ∙ ap (λ (o : Option (List ℕ)). searched o (length child-bytes)) (x .1)
-            ∙ sym (ap (λ (o : Option (List ℕ)). searched o (length bytes)) (whole ∙ ap (λ (o : Option (List ℕ)). o else first-later (k + 1)) (x .1)))
+      -- it gives none
+      module _ (e : child .found ≡ false) where
+        pub child-none : (k′ : ℕ) → k′ ≡ offer-from n w (k + 1) → Searching k′ (so-far + child .length)
+        unfolding _else_
+        child-none k′ next =
+            let x = came-none child-first (length child-bytes) child came e in
+            record {
+              next = goes-on r s k b h is (i .next) k′ next;
+              rest = sym (whole k′ next ∙ ap (λ (o : Option (List ℕ)). o else first-later k′) (x .0));
+              long = omega (arith, x .1, branches-long r q f g s k b h is (i .next) r′ placed k′ next, i .long);
+            }
 
-        -- it gives none
-        module _ (e : child .found ≡ false) where
-          pub child-none : Searching (k + 1) (so-far + child .length)
-          unfolding _else_
-          child-none =
-              let x = came-none child-first (length child-bytes) child came e in
-              record {
-                within = omega arith;
-                rest = sym (whole ∙ ap (λ (o : Option (List ℕ)). o else first-later (k + 1)) (x .0));
-                long = omega (arith, x .1, branches-long r q f g s k b h is may r′ placed, i .long);
-              }
-
-          pub sum-fits : so-far + child .length < 2 ^ 64
-          sum-fits = omega (arith, child-none .long, node-most n q f g w (s .few) (s .allowed))
+        pub sum-fits : so-far + child .length < 2 ^ 64
+        sum-fits = omega (arith, child-none (offer-from n w (k + 1)) refl .long, node-most n q f g w (s .few) (s .allowed))
 
     -- after the last choice
     pub searched-all : (k : ℕ) → 2 * n ≤ k → (so-far : ℕ) → Searching k so-far → Answers (record { found = false; choices = 0; length = so-far })

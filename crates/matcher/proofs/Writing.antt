@@ -1,7 +1,7 @@
 -- The writing of a node's tree, step by step. The idea: what is written, followed by the trees of the choices still offered, is the
 -- whole tree.
 use Prim.Native.Nat.{ℕ, _+_, _*_, _≤_, _<_}
-use mathlib.Core.Path.{_≡_, sym, ap, ap₂, _∙_}
+use mathlib.Core.Path.{_≡_, refl, sym, ap, ap₂, _∙_}
 use mathlib.Core.Bool.{true, false}
 use mathlib.Core.List.{List}
 use native.Mathlib.Nat.{add-zero}
@@ -16,8 +16,8 @@ use Rattle.wirings.specs.Pairs.{first-dead}
 use Rattle.wirings.proofs.Choices.{offered, offered-end}
 use Rattle.partial.specs.declared.Wiring.{Wiring}
 use Rattle.partial.specs.declared.Found.{Found}
-use Rattle.partial.specs.Partial.{StandsFor, Formed, prefix, may-place, found}
-use Rattle.partial.proofs.Steps.{passes-over}
+use Rattle.partial.specs.Partial.{StandsFor, Formed, prefix, offer-from, found}
+use Rattle.partial.proofs.Steps.{Next, goes-on, begins, begins-all}
 use Rattle.claims.specs.Trees.{trees-bytes, tree-each}
 use Rattle.matcher.proofs.Nodes.{node-bytes, branches, closing-node, opened-node, branches-on, branches-long}
 
@@ -37,42 +37,40 @@ module _ (r : Wiring) (q : ℕ) (f g : List ℕ) where
 
   -- the choices before k have their trees written, up to `at`, where the first began at `from`
   pub record Writing (before : List ℕ) (from k at : ℕ) (out : List ℕ) : Type 0 where
-    pub within : k ≤ 2 * n
+    pub next : Next n w k
     pub room : length out ≡ length before
     pub long : at + length (later k) ≡ from + length (later 0)
     pub rest : sets out at (later k) ≡ sets before from (later 0)
 
   module _ (s : Formed r) where
-    module _ (k b : ℕ) (h : k < 2 * n) (is : b ≡ choice-at k) (before : List ℕ) (from at : ℕ) (out : List ℕ) (i : Writing before from k at out) where
-      -- a choice that may not follow
-      pub write-skips : may-place r b ≡ false → Writing before from (k + 1) at out
-      write-skips e =
-          let same = sym (passes-over r s k b h is e) in
-          record {
-            within = omega arith;
-            room = i .room;
-            long = ap (λ (l : List ℕ). at + length (branches n q f g w l)) same ∙ i .long;
-            rest = ap (λ (l : List ℕ). sets out at (branches n q f g w l)) same ∙ i .rest;
-          }
-
-      -- one that may: its tree has room, and is written
-      module _ (may : may-place r b ≡ true) (r′ : Wiring) (placed : StandsFor r′ n (w adding b)) where
-        abbrev child-bytes : List ℕ
-        child-bytes = node-bytes (r′ .n) q f g (prefix r′)
-
-        pub child-room : from + length (later 0) ≤ length before → at + length child-bytes ≤ length out
-        child-room fit = omega (arith, branches-long r q f g s k b h is may r′ placed, i .long, i .room)
-
-        pub child-written : (past : ℕ) (out′ : List ℕ) → past ≡ at + length child-bytes → out′ ≡ sets out at child-bytes → Writing before from (k + 1) past out′
-        child-written past out′ ends now = record {
-          within = omega arith;
-          room = ap length now ∙ length-sets out at child-bytes ∙ i .room;
-          long = omega (arith, branches-long r q f g s k b h is may r′ placed, i .long);
-          rest =
-              ap₂ (λ (l : List ℕ) (at : ℕ). sets l at (later (k + 1))) now ends
-              ∙ sets-join out child-bytes (later (k + 1)) at
-              ∙ ap (sets out at) (sym (branches-on r q f g s k b h is may r′ placed)) ∙ i .rest;
+    pub writing-start : (before : List ℕ) (from k : ℕ) → k ≡ offer-from n w 0 → Writing before from k from before
+    writing-start before from k first =
+        let same = sym (begins-all r s k first) in
+        record {
+          next = begins r s k first;
+          room = refl;
+          long = ap (λ (l : List ℕ). from + length (branches n q f g w l)) same;
+          rest = ap (λ (l : List ℕ). sets before from (branches n q f g w l)) same;
         }
+
+    -- the tree of the choice at a place that is offered has room, and is written
+    module _ (k b : ℕ) (h : k < 2 * n) (is : b ≡ choice-at k) (before : List ℕ) (from at : ℕ) (out : List ℕ) (i : Writing before from k at out) (r′ : Wiring) (placed : StandsFor r′ n (w adding b)) where
+      abbrev child-bytes : List ℕ
+      child-bytes = node-bytes (r′ .n) q f g (prefix r′)
+
+      pub child-room : from + length (later 0) ≤ length before → at + length child-bytes ≤ length out
+      child-room fit = omega (arith, branches-long r q f g s k b h is (i .next) r′ placed (offer-from n w (k + 1)) refl, i .long, i .room)
+
+      pub child-written : (past : ℕ) (out′ : List ℕ) → past ≡ at + length child-bytes → out′ ≡ sets out at child-bytes → (k′ : ℕ) → k′ ≡ offer-from n w (k + 1) → Writing before from k′ past out′
+      child-written past out′ ends now k′ next = record {
+        next = goes-on r s k b h is (i .next) k′ next;
+        room = ap length now ∙ length-sets out at child-bytes ∙ i .room;
+        long = omega (arith, branches-long r q f g s k b h is (i .next) r′ placed k′ next, i .long);
+        rest =
+            ap₂ (λ (l : List ℕ) (at : ℕ). sets l at (later k′)) now ends
+            ∙ sets-join out child-bytes (later k′) at
+            ∙ ap (sets out at) (sym (branches-on r q f g s k b h is (i .next) r′ placed k′ next)) ∙ i .rest;
+      }
 
     -- a closing is three bytes
     pub closing-room : (pair : Found) → pair ≡ found (first-dead n q f g w) → pair .found ≡ true → (start room : ℕ) → start + length bytes ≤ room → start + 3 ≤ room

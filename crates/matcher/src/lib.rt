@@ -46,18 +46,14 @@ fn search(w: Wiring, q: u8, f: &[u8], g: &[u8]) -> Outcome
         };
     }
     let mut length = 1;
-    let mut c = 0u8;
+    let mut c = w.offer(0);
     while c < 2 * w.n {
-        let choice = partial::choice(c);
-        c += 1;
-        if !w.free(choice) {
-            continue;
-        }
-        let child = search(w.place(choice), q, f, g);
+        let child = search(w.place(partial::choice(c)), q, f, g);
         if child.found {
             return child;
         }
         length += child.length;
+        c = w.offer(c + 1);
     }
     Outcome {
         found: false,
@@ -83,14 +79,10 @@ fn write_tree(w: Wiring, q: u8, f: &[u8], g: &[u8], out: &mut [u8], start: usize
     }
     out[start] = 0xFF;
     let mut end = start + 1;
-    let mut c = 0u8;
+    let mut c = w.offer(0);
     while c < 2 * w.n {
-        let choice = partial::choice(c);
-        c += 1;
-        if !w.free(choice) {
-            continue;
-        }
-        end = write_tree(w.place(choice), q, f, g, out, end);
+        end = write_tree(w.place(partial::choice(c)), q, f, g, out, end);
+        c = w.offer(c + 1);
     }
     end
 }

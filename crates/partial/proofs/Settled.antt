@@ -19,6 +19,8 @@ use Rattle.partial.proofs.Wiring.start.Kinds as start-kinds
 use Rattle.partial.proofs.Wiring.start.Reads as start
 use Rattle.partial.proofs.Wiring.free.Kinds as free-kinds
 use Rattle.partial.proofs.Wiring.free.Reads as free
+use Rattle.partial.proofs.Wiring.offer.Kinds as offer-kinds
+use Rattle.partial.proofs.Wiring.offer.Reads as offer
 use Rattle.partial.proofs.Wiring.place.Kinds as place-kinds
 use Rattle.partial.proofs.Wiring.place.Reads as place
 use Rattle.partial.proofs.Wiring.locate.Kinds as locate-kinds
@@ -57,6 +59,9 @@ start-settled κs a r₁ r₂ s₁ s₂ p q = p .0 .is ∙ sym (q .0 .is)
 
 pub free-settled : Settled 0 free-kinds.ps free-kinds.r free.Post
 free-settled κs a r₁ r₂ s₁ s₂ p q = p ∙ sym q
+
+pub offer-settled : Settled 0 offer-kinds.ps offer-kinds.r offer.Post
+offer-settled κs a r₁ r₂ s₁ s₂ p q = p ∙ sym q
 
 pub place-settled : Settled 0 place-kinds.ps place-kinds.r place.Post
 place-settled κs a r₁ r₂ s₁ s₂ p q = p .0 .is ∙ sym (q .0 .is)

@@ -1,19 +1,67 @@
--- One step down from a node, as a loop through the choices makes it: each choice in order, which the wiring's own test passes over
--- or lets be placed.
-use Prim.Native.Nat.{ℕ, _+_, _-_, _*_, _<_}
-use mathlib.Core.Path.{_≡_, sym, ap, _∙_}
+-- From a node to its children. The idea: the choices that may follow are offered one by one, in order; what is left to offer from a
+-- place on begins with the choice there, and goes on at the next place that is offered.
+use Prim.Native.Nat.{ℕ, zero, suc, _+_, _-_, _*_, _≤_, _<_}
+use mathlib.Core.Path.{_≡_, refl, sym, ap, ap₂, _∙_, subst}
 use mathlib.Core.Bool.{Bool, true, false, _&&_}
 use mathlib.Core.List.{List, [], _∷_}
 use mathlib.Core.Logic.{⊎-elim}
-use native.Mathlib.Nat.{eq-or-lt-of-le}
+use native.Mathlib.Nat.{add-zero, eq-or-lt-of-le}
 use native.Mathlib.Omega.{arith}
-use lib.ListN.{length, length-append}
+use lib.ListN.{length, length-append, drop-of-length-le}
+use Rattle.bits.proofs.Tests.{decide}
+use Rattle.rules.specs.Lists.{passed-over}
 use Rattle.rules.specs.Rules.{_adding_}
-use Rattle.wirings.specs.Wirings.{choice-at, free-choice}
-use Rattle.wirings.proofs.Choices.{choice-at-is, offered, offered-skip, offered-take}
+use Rattle.wirings.specs.Wirings.{choices-from, choice-at, free-choice}
+use Rattle.wirings.proofs.Choices.{choices-at, choices-length, choice-at-is, offered, offered-skip, offered-take}
 use Rattle.partial.specs.declared.Wiring.{Wiring}
-use Rattle.partial.specs.Partial.{StandsFor, Formed, prefix, may-place}
+use Rattle.partial.specs.Partial.{StandsFor, Formed, prefix, may-place, offer-from}
 use Rattle.partial.proofs.Standing.{stands-n, stands-depth, placed-within}
+
+-- ---- the next place that is offered
+
+module _ (n : ℕ) (w : List ℕ) where
+  module _ (k : ℕ) where
+    -- it is this one, or comes after it
+    pub offer-here : k < 2 * n → free-choice w (choice-at k) ≡ true → offer-from n w k ≡ k
+    unfolding offer-from passed-over
+    offer-here h e = simp (choices-at n k h, e) (add-zero k)
+
+    pub offer-later : k < 2 * n → free-choice w (choice-at k) ≡ false → offer-from n w k ≡ offer-from n w (k + 1)
+    unfolding offer-from passed-over
+    offer-later h e = simp (choices-at n k h, e) (omega arith)
+
+    pub offer-end : 2 * n ≤ k → offer-from n w k ≡ k
+    unfolding offer-from passed-over
+    offer-end h =
+        let past : length (choices-from 0 n) ≤ k = omega (arith, choices-length 0 n) in
+        simp (drop-of-length-le (choices-from 0 n) past) (add-zero k)
+
+  pub offer-after : (c k : ℕ) → k ≡ offer-from n w c → c ≤ k
+  unfolding offer-from
+  offer-after c k e = omega arith
+
+  -- k is a place that is offered, or the end
+  pub record Next (k : ℕ) : Type 0 where
+    pub within : k ≤ 2 * n
+    pub free : k < 2 * n → free-choice w (choice-at k) ≡ true
+
+  -- what is offered from c on is offered from the next such place on
+  offers-left : (m c : ℕ) → c + m ≡ 2 * n → Next (offer-from n w c) × (offered n w c ≡ offered n w (offer-from n w c))
+  offers-left zero c e =
+      let over : 2 * n ≤ c = omega arith in
+      subst (λ (k : ℕ). Next k × (offered n w c ≡ offered n w k)) (sym (offer-end c over)) (record { within = omega arith; free = λ h. absurd (omega arith) }, refl)
+  offers-left (suc m) c e =
+      let h : c < 2 * n = omega arith in
+      ⊎-elim (λ (p : free-choice w (choice-at c) ≡ true). subst (λ (k : ℕ). Next k × (offered n w c ≡ offered n w k)) (sym (offer-here c h p)) (record { within = omega arith; free = λ _. p }, refl))
+      (λ (p : free-choice w (choice-at c) ≡ false).
+      let i = offers-left m (c + 1) (omega arith) in
+      subst (λ (k : ℕ). Next k × (offered n w c ≡ offered n w k)) (sym (offer-later c h p)) (i .0, offered-skip n w c h p ∙ i .1))
+      (decide (free-choice w (choice-at c)))
+
+  pub offers : (c k : ℕ) → c ≤ 2 * n → k ≡ offer-from n w c → Next k × (offered n w c ≡ offered n w k)
+  offers c k h e = subst (λ (k : ℕ). Next k × (offered n w c ≡ offered n w k)) (sym e) (offers-left (2 * n - c) c (omega arith))
+
+-- ---- as the code meets it, with the choices in a wiring by value
 
 module _ (r : Wiring) (s : Formed r) where
   abbrev n : ℕ
@@ -43,13 +91,27 @@ module _ (r : Wiring) (s : Formed r) where
       )
 
   module _ (k b : ℕ) (h : k < 2 * n) (is : b ≡ choice-at k) where
-    -- what the wiring's test says of the choice
-    tested : may-place r b ≡ free-choice w (choice-at k)
+    -- what the wiring's test says of the choice at a place
+    pub tested : may-place r b ≡ free-choice w (choice-at k)
     tested =
         ap (may-place r) is ∙ ap (λ (t : Bool). t && free-choice w (choice-at k)) (choice-at-is n (omega (arith, s .few)) k h)
 
-    pub passes-over : may-place r b ≡ false → offered n w k ≡ offered n w (k + 1)
-    passes-over e = offered-skip n w k h (sym tested ∙ e)
+    module _ (here : Next n w k) where
+      pub may-take : may-place r b ≡ true
+      may-take = tested ∙ here .free h
 
-    pub takes : may-place r b ≡ true → offered n w k ≡ b ∷ offered n w (k + 1)
-    takes e = offered-take n w k h (sym tested ∙ e) ∙ ap (λ (b : ℕ). b ∷ offered n w (k + 1)) (sym is)
+      -- what is left begins with it, and goes on at the next place
+      module _ (k′ : ℕ) (next : k′ ≡ offer-from n w (k + 1)) where
+        pub goes-on : Next n w k′
+        goes-on = offers n w (k + 1) k′ (omega arith) next .0
+
+        pub takes : offered n w k ≡ b ∷ offered n w k′
+        takes = offered-take n w k h (here .free h) ∙ ap₂ (λ (b : ℕ) (l : List ℕ). b ∷ l) (sym is) (offers n w (k + 1) k′ (omega arith) next .1)
+
+  -- the first place
+  module _ (k : ℕ) (first : k ≡ offer-from n w 0) where
+    pub begins : Next n w k
+    begins = offers n w 0 k (omega arith) first .0
+
+    pub begins-all : offered n w 0 ≡ offered n w k
+    begins-all = offers n w 0 k (omega arith) first .1

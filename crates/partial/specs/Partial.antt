@@ -6,12 +6,12 @@ use mathlib.Core.Bool.{Bool, true, false, cond, not, _&&_, _||_}
 use mathlib.Core.List.{List, [], _∷_, flatMap}
 use mathlib.Core.Option.{Option, none, some}
 use lib.Dec.{ltb, eqb}
-use lib.ListN.{length, getD}
+use lib.ListN.{length, getD, drop}
 use Rattle.bits.specs.Bits.{has, mask, any}
 use Rattle.cubes.specs.Cubes.{cube-names}
-use Rattle.rules.specs.Lists.{first}
+use Rattle.rules.specs.Lists.{first, passed-over}
 use Rattle.rules.specs.Rules.{follows}
-use Rattle.wirings.specs.Wirings.{input-of, inverted, is-choice, free-choice, straight}
+use Rattle.wirings.specs.Wirings.{input-of, inverted, choices-from, is-choice, free-choice, straight}
 use Rattle.wirings.specs.Pairs.{carried-pos, carried-neg, unplaced, unused, unplaced-literal, dead, Pair, at-cube, cube-pairs, list-pairs, pair-test}
 use Rattle.partial.specs.declared.Wiring.{Wiring}
 use Rattle.partial.specs.declared.Carried.{Carried}
@@ -63,6 +63,10 @@ Formed r = StandsFor r (r .n) (prefix r)
 -- a byte is a choice of n inputs whose input of g is free
 abbrev pub may-place : Wiring → ℕ → Bool
 may-place r b = is-choice (r .n) b && free-choice (prefix r) b
+
+-- the first place from c on, in the order of choices, whose choice may follow w; 2n if there is none
+unfoldable pub offer-from : ℕ → List ℕ → ℕ → ℕ
+offer-from n w c = c + passed-over (free-choice w) (drop c (choices-from 0 n))
 
 -- ---- where literals go
 

@@ -11,7 +11,7 @@ ghost use Rattle.rules.specs.Rules.{_adding_};
 ghost use Rattle.records.specs.Records.{record-end};
 ghost use Rattle.wirings.specs.Wirings.{choice-at, is-choice};
 ghost use Rattle.wirings.specs.Pairs.{separates, dead, side, against, first-dead};
-ghost use Rattle.partial.specs.Partial.{prefix, StandsFor, Formed, may-place, located, led, carried, opposes, clears, found, row, rows};
+ghost use Rattle.partial.specs.Partial.{prefix, StandsFor, Formed, may-place, offer-from, located, led, carried, opposes, clears, found, row, rows};
 
 // A partial wiring of n inputs: the inputs of f below `depth` have their choices, byte i of `choices` for input i. Two masks
 // say what remains: the inputs of f that are unplaced, and the inputs of g that are free. Two more hold the choices bit by bit,
@@ -188,6 +188,22 @@ impl Wiring {
             return false;
         }
         (self.free as u32 >> (choice & 15)) & 1 != 0
+    }
+
+    // The first place from c on, in the order of choices, whose choice is free; 2n if there is none.
+    pub fn offer(self, c: u8) -> u8
+        requires { ⌜ Formed self ⌝ }
+        requires { ⌜ c ≤ 2 * self .n ⌝ }
+        ensures { λ r. ⌜ r ≡ offer-from (self .n) (prefix self) c ⌝ }
+    {
+        let mut k = c;
+        while k < 2 * self.n {
+            if self.free(choice(k)) {
+                return k;
+            }
+            k += 1;
+        }
+        k
     }
 
     // The next input of f is given its choice.

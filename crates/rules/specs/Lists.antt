@@ -24,6 +24,11 @@ module _ {A : Type 0} where
   first t [] = none
   first t (x ∷ l) = cond (t x) (some x) (first t l)
 
+  -- how many come before the first that passes; all of them, if none does
+  unfoldable pub passed-over : (A → Bool) → List A → ℕ
+  passed-over t [] = 0
+  passed-over t (x ∷ l) = cond (t x) 0 (suc (passed-over t l))
+
   -- whether some element passes, and whether each does
   unfoldable pub some-in : (A → Bool) → List A → Bool
   some-in t [] = false

@@ -1,19 +1,18 @@
 -- Each call has one input less to be placed; the loop goes through the choices, and what is left to be read of the split's trees
 -- is the whole answer.
 use Prim.Native.Nat.{ℕ, _-_, _*_, _<_}
-use mathlib.Core.Path.{sym, _∙_}
+use mathlib.Core.Path.{_∙_}
 use native.Mathlib.Omega.{arith}
 use borrow.Author.Needs.{needs}
-use borrow.Author.Tests.{not-true, not-false}
 use borrow.Fn.Kinds.{In}
 use borrow.Fn.PlainCycle.{Measures, is, falls, and}
-use Rattle.checker.proofs.Children.{tree-short, tree-closing, tree-deep, tree-split, Reading, passed-over, child-read, child-refused, all-read}
-use Rattle.partial.proofs.Steps.{depth-is, left-over, less-left}
+use Rattle.checker.proofs.Children.{tree-short, tree-closing, tree-deep, tree-split, Reading, reading-start, child-read, child-refused, all-read}
+use Rattle.partial.proofs.Steps.{offer-after, depth-is, left-over, less-left, may-take}
 use Rattle.checker.proofs.tree.Reads as tree
 use Rattle.checker.proofs.tree.Kinds as tree-kinds
 use Rattle.checker.proofs.+tree.Lts-tree as tree-lts
 use Rattle.checker.proofs.closing.Reads as closing
-use Rattle.partial.proofs.Wiring.free.Reads as free
+use Rattle.partial.proofs.Wiring.offer.Reads as offer
 use Rattle.partial.proofs.Wiring.place.Reads as place
 use Rattle.partial.proofs.choice.Reads as choice
 use Rattle.checker.proofs.+tree.{statement}
@@ -39,10 +38,10 @@ pub +tree-spec : {M : Type 1} → statement M
 +tree-spec = close μ-tree λ t. tree-lts.spec (
   closing.Asked,
   closing.Learnt,
+  offer.Asked,
+  offer.Learnt,
   choice.Asked,
   choice.Learnt,
-  free.Asked,
-  free.Learnt,
   place.Asked,
   place.Learnt,
   tree-below t,
@@ -56,47 +55,26 @@ pub +tree-spec : {M : Type 1} → statement M
     (λ c. omega arith)
     (λ c κs. c .before .before .before .before .before .before .pre .1)
     (λ c. c .closing .ensures ∙ tree-closing _ _ _ _ _ _ _ (c .before .before .before .if1 .left) (c .before .if2 .taken))
-    (λ c.
-    let start = c .before .before .before .before .before .before .before .before in
-    let a = start .args in
-    tree-deep _ _ _ _ _ _ _ (c .before .before .before .before .if1 .left) (c .before .before .if2 .left) (depth-is (a .w) (start .pre .1 .0) ∙ c .if3 .taken))
+    (λ c. let start = c .before .before .before .before .before .before .before .before in tree-deep _ _ _ _ _ _ _ (c .before .before .before .before .if1 .left) (c .before .before .if2 .left) (depth-is (start .args .w) (start .pre .1 .0) ∙ c .if3 .taken))
     (λ c. omega arith)
+    (λ c κs. (c .before .before .before .before .before .before .before .before .pre .1 .0, omega arith))
     (λ c.
-    let start = c .before .before .before .before .before .before .before .before in
-    let a = start .args in
-    record {
-      within = omega arith;
-      rest = tree-split _ _ _ _ _ _ _ (c .before .before .before .before .if1 .left) (c .before .before .if2 .left) (left-over (a .w) (start .pre .1 .0) (c .if3 .left));
-    })
-    (λ c. omega (arith, c .before .before .before .before .before .before .before .before .before .before .pre .1 .0 .few))
+    let start = c .before .before .before .before .before .before .before .before .before in
+    let s = start .pre .1 .0 in
+    reading-start _ _ _ _ _ s _ _ _ (c .offer .ensures) (tree-split _ _ _ _ _ _ _ (c .before .before .before .before .before .if1 .left) (c .before .before .before .if2 .left) (left-over (start .args .w) s (c .before .if3 .left))))
+    (λ c. omega (arith, c .before .before .before .before .before .before .before .before .before .before .before .pre .1 .0 .few))
     (λ c κs. search needs)
-    (λ c. omega (arith, c .before .before .before .before .before .before .before .before .before .before .before .before .pre .1 .0 .few))
-    (λ c κs. c .before .before .before .before .before .before .before .before .before .before .before .before .pre .1 .0)
-    (λ c. omega arith)
-    (λ c.
-    let test = c .before .before .before in
-    passed-over _ _ _ _ _ (test .before .before .before .before .before .before .before .before .before .before .before .pre .1 .0) _ _ _ _
-    (test .before .before .loop .inv) (test .if4 .taken) (c .before .before .choice .ensures) (sym (c .before .free .ensures) ∙ not-true _ (c .if5 .taken)))
+    (λ c κs.
+    let s = c .before .before .before .before .before .before .before .before .before .before .before .before .before .pre .1 .0 in
+    (s, may-take _ s _ _ (c .before .if4 .taken) (c .choice .ensures) (c .before .before .before .loop .inv .next)))
     (λ c κs.
     let start = c .before .before .before .before .before .before .before .before .before .before .before .before .before .before in
-    (start .pre .1 .0, sym (c .before .free .ensures) ∙ not-false _ (c .if5 .left)))
-    (λ c κs.
-    let start = c .before .before .before .before .before .before .before .before .before .before .before .before .before .before .before in
-    let a = start .args in
-    (omega (arith, start .pre .0, less-left (a .w) (start .pre .1 .0) _ _ (c .place .ensures .0)), (c .place .ensures .1, start .pre .1 .1)))
+    (omega (arith, start .pre .0, less-left (start .args .w) (start .pre .1 .0) _ _ (c .place .ensures .0)), (c .place .ensures .1, start .pre .1 .1)))
     (λ c.
-    let test = c .before .before .before .before .before .before .before in
-    child-refused _ _ _ _ _ (test .before .before .before .before .before .before .before .before .before .before .before .pre .1 .0) _ _ _ _
-    (test .before .before .loop .inv) (test .if4 .taken) (c .before .before .before .before .before .before .choice .ensures)
-    (sym (c .before .before .before .before .before .free .ensures) ∙ not-false _ (c .before .before .before .before .if5 .left)) _ (c .before .before .before .place .ensures .0) _
-    (c .before .before .tree .ensures) (c .if6 .taken))
-    (λ c. omega arith)
+    child-refused _ _ _ _ _ (c .before .before .before .before .before .before .before .before .before .before .before .before .before .before .before .before .before .pre .1 .0) _ _ _ _ (c .before .before .before .before .before .before .before .loop .inv) (c .before .before .before .before .before .if4 .taken) (c .before .before .before .before .choice .ensures) _ (c .before .before .before .place .ensures .0) _ (c .before .before .tree .ensures) (c .if5 .taken))
+    (λ c. omega (arith, c .before .before .before .before .before .before .before .before .before .before .before .before .before .before .before .before .before .pre .1 .0 .few))
+    (λ c κs. (c .before .before .before .before .before .before .before .before .before .before .before .before .before .before .before .before .before .pre .1 .0, omega (arith, c .before .before .before .before .before .if4 .taken)))
+    (λ c. let after = offer-after _ _ _ _ (c .offer2 .ensures) in omega (arith, after, c .before .before .before .before .before .before .if4 .taken))
     (λ c.
-    let test = c .before .before .before .before .before .before .before in
-    child-read _ _ _ _ _ (test .before .before .before .before .before .before .before .before .before .before .before .pre .1 .0) _ _ _ _
-    (test .before .before .loop .inv) (test .if4 .taken) (c .before .before .before .before .before .before .choice .ensures)
-    (sym (c .before .before .before .before .before .free .ensures) ∙ not-false _ (c .before .before .before .before .if5 .left)) _ (c .before .before .before .place .ensures .0) _
-    (c .before .before .tree .ensures) (c .if6 .left))
-    (λ c.
-    let start = c .before .before .before .before .before .before .before .before .before .before .before in
-    all-read _ _ _ _ _ (start .pre .1 .0) _ _ _ (c .before .before .loop .inv) (c .if4 .left))
+    child-read _ _ _ _ _ (c .before .before .before .before .before .before .before .before .before .before .before .before .before .before .before .before .before .before .pre .1 .0) _ _ _ _ (c .before .before .before .before .before .before .before .before .loop .inv) (c .before .before .before .before .before .before .if4 .taken) (c .before .before .before .before .before .choice .ensures) _ (c .before .before .before .before .place .ensures .0) _ (c .before .before .before .tree .ensures) (c .before .if5 .left) _ (c .offer2 .ensures))
+    (λ c. all-read _ _ _ _ _ (c .before .before .before .before .before .before .before .before .before .before .before .before .pre .1 .0) _ _ _ (c .before .before .loop .inv) (c .if4 .left))

@@ -1,23 +1,22 @@
 -- Each call has one input less to be placed; the loop goes through the choices, and what the choices still offered give, with the
 -- length so far, is the whole answer.
 use Prim.Native.Nat.{ℕ, _-_, _*_, _<_}
-use mathlib.Core.Path.{sym, _∙_}
+use mathlib.Core.Path.{_∙_}
 use native.Mathlib.Omega.{arith}
 use borrow.Author.Needs.{needs}
-use borrow.Author.Tests.{not-true, not-false}
 use borrow.Fn.Kinds.{In}
 use borrow.Fn.PlainCycle.{Measures, is, falls, and}
 use Rattle.records.proofs.Frame.{framed-both}
-use Rattle.partial.proofs.Steps.{less-left}
+use Rattle.partial.proofs.Steps.{offer-after, less-left, may-take}
 use Rattle.partial.proofs.Standing.{stands-n}
 use Rattle.partial.proofs.Rows.{found-as}
 use Rattle.matcher.proofs.Nodes.{death-at}
-use Rattle.matcher.proofs.Searching.{Searching, searched-dead, searched-whole, searching-start, search-skips, child-found, child-none, sum-fits, searched-all}
+use Rattle.matcher.proofs.Searching.{Searching, searched-dead, searched-whole, searching-start, child-found, child-none, sum-fits, searched-all}
 use Rattle.matcher.proofs.search.Reads as reads
 use Rattle.matcher.proofs.search.Kinds as kinds
 use Rattle.matcher.proofs.+search.Lts-search as lts
 use Rattle.partial.proofs.Wiring.first_dead.Reads as first-dead
-use Rattle.partial.proofs.Wiring.free.Reads as free
+use Rattle.partial.proofs.Wiring.offer.Reads as offer
 use Rattle.partial.proofs.Wiring.place.Reads as place
 use Rattle.partial.proofs.choice.Reads as choice
 use Rattle.matcher.proofs.+search.{statement}
@@ -43,10 +42,10 @@ pub +search-spec : {M : Type 1} → statement M
 +search-spec = close μ λ t. lts.spec (
   first-dead.Asked,
   first-dead.Learnt,
+  offer.Asked,
+  offer.Learnt,
   choice.Asked,
   choice.Learnt,
-  free.Asked,
-  free.Learnt,
   place.Asked,
   place.Learnt,
   search-below t,
@@ -66,41 +65,27 @@ pub +search-spec : {M : Type 1} → statement M
     (λ c.
     let h = c .before .before .before .before .before .before .pre .1 in
     searched-whole _ _ _ _ (h .0) (death-at _ _ _ _ (h .1 .0) (h .1 .1)) (found-as _ _ (c .before .before .before .first-dead .ensures) (c .before .before .if1 .left)) (c .if2 .taken))
-    (λ c. searching-start _ _ _ _ (c .before .before .before .before .before .before .pre .1 .0) (found-as _ _ (c .before .before .before .first-dead .ensures) (c .before .before .if1 .left)) (c .if2 .left))
-    (λ c. omega (arith, c .before .before .before .before .before .before .before .before .pre .1 .0 .few))
+    (λ c κs. (c .before .before .before .before .before .before .pre .1 .0, omega arith))
+    (λ c. searching-start _ _ _ _ (c .before .before .before .before .before .before .before .pre .1 .0) (found-as _ _ (c .before .before .before .before .first-dead .ensures) (c .before .before .before .if1 .left)) (c .before .if2 .left) _ (c .offer .ensures))
+    (λ c. omega (arith, c .before .before .before .before .before .before .before .before .before .pre .1 .0 .few))
     (λ c κs. search needs)
-    (λ c. omega (arith, c .before .before .before .before .before .before .before .before .before .before .pre .1 .0 .few))
-    (λ c κs. c .before .before .before .before .before .before .before .before .before .before .pre .1 .0)
-    (λ c. omega arith)
-    (λ c.
-    let test = c .before .before .before in
-    let loop = test .before .before in
-    search-skips _ _ _ _ (loop .before .before .before .before .before .before .before .pre .1 .0) _ _ (test .if3 .taken) (c .before .before .choice .ensures) _ (loop .loop .inv) (sym (c .before .free .ensures) ∙ not-true _ (c .if4 .taken)))
-    (λ c κs. (c .before .before .before .before .before .before .before .before .before .before .before .before .pre .1 .0, sym (c .before .free .ensures) ∙ not-false _ (c .if4 .left)))
     (λ c κs.
-    let start = c .before .before .before .before .before .before .before .before .before .before .before .before .before in
+    let s = c .before .before .before .before .before .before .before .before .before .before .before .pre .1 .0 in
+    (s, may-take _ s _ _ (c .before .if3 .taken) (c .choice .ensures) (c .before .before .before .loop .inv .next)))
+    (λ c κs.
+    let start = c .before .before .before .before .before .before .before .before .before .before .before .before in
     let h = start .pre .1 in
     let placed = c .place .ensures .0 in
     (omega (arith, start .pre .0, less-left (start .args .w) (h .0) _ _ placed), (c .place .ensures .1, (stands-n _ _ _ placed ∙ h .1 .0, h .1 .1))))
     (λ c.
-    let test = c .before .before .before .before .before .before in
-    let loop = test .before .before in
-    child-found _ _ _ _ (loop .before .before .before .before .before .before .before .pre .1 .0) _ _ (test .if3 .taken) (c .before .before .before .before .before .choice .ensures) _ (loop .loop .inv) (sym (c .before .before .before .before .free .ensures) ∙ not-false _ (c .before .before .before .if4 .left)) _ (c .before .before .place .ensures .0) _ (c .before .search .ensures)
-    (c .if5 .taken))
+    child-found _ _ _ _ (c .before .before .before .before .before .before .before .before .before .before .before .before .before .before .pre .1 .0) _ _ (c .before .before .before .before .if3 .taken) (c .before .before .before .choice .ensures) _ (c .before .before .before .before .before .before .loop .inv) _ (c .before .before .place .ensures .0) _ (c .before .search .ensures) (c .if4 .taken))
     (λ c.
-    let test = c .before .before .before .before .before .before .before in
-    let loop = test .before .before in
     record {
-      fits =
-          sum-fits _ _ _ _ (loop .before .before .before .before .before .before .before .pre .1 .0) _ _ (test .if3 .taken) (c .before .before .before .before .before .before .choice .ensures) _ (loop .loop .inv) (sym (c .before .before .before .before .before .free .ensures) ∙ not-false _ (c .before .before .before .before .if4 .left)) _ (c .before .before .before .place .ensures .0) _ (c .before .before .search .ensures)
-          (c .before .if5 .left);
+      fits = sum-fits _ _ _ _ (c .before .before .before .before .before .before .before .before .before .before .before .before .before .before .before .pre .1 .0) _ _ (c .before .before .before .before .before .if3 .taken) (c .before .before .before .before .choice .ensures) _ (c .before .before .before .before .before .before .before .loop .inv) _ (c .before .before .before .place .ensures .0) _ (c .before .before .search .ensures) (c .before .if4 .left);
     })
-    (λ c. omega arith)
+    (λ c. omega (arith, c .before .before .before .before .before .before .before .before .before .before .before .before .before .before .before .pre .1 .0 .few))
+    (λ c κs. (c .before .before .before .before .before .before .before .before .before .before .before .before .before .before .before .pre .1 .0, omega (arith, c .before .before .before .before .before .if3 .taken)))
+    (λ c. let after = offer-after _ _ _ _ (c .offer2 .ensures) in omega (arith, after, c .before .before .before .before .before .before .if3 .taken))
     (λ c.
-    let test = c .before .before .before .before .before .before .before in
-    let loop = test .before .before in
-    child-none _ _ _ _ (loop .before .before .before .before .before .before .before .pre .1 .0) _ _ (test .if3 .taken) (c .before .before .before .before .before .before .choice .ensures) _ (loop .loop .inv) (sym (c .before .before .before .before .before .free .ensures) ∙ not-false _ (c .before .before .before .before .if4 .left)) _ (c .before .before .before .place .ensures .0) _ (c .before .before .search .ensures)
-    (c .before .if5 .left))
-    (λ c.
-    let loop = c .before .before in
-    searched-all _ _ _ _ (loop .before .before .before .before .before .before .before .pre .1 .0) _ (c .if3 .left) _ (loop .loop .inv))
+    child-none _ _ _ _ (c .before .before .before .before .before .before .before .before .before .before .before .before .before .before .before .before .pre .1 .0) _ _ (c .before .before .before .before .before .before .if3 .taken) (c .before .before .before .before .before .choice .ensures) _ (c .before .before .before .before .before .before .before .before .loop .inv) _ (c .before .before .before .before .place .ensures .0) _ (c .before .before .before .search .ensures) (c .before .before .if4 .left) _ (c .offer2 .ensures))
+    (λ c. searched-all _ _ _ _ (c .before .before .before .before .before .before .before .before .before .before .pre .1 .0) _ (c .if3 .left) _ (c .before .before .loop .inv))

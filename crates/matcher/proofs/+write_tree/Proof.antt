@@ -1,27 +1,26 @@
 -- Each call has one input less to be placed; the loop goes through the choices, and what is written, followed by the trees of the
 -- choices still offered, is the whole tree.
 use Prim.Native.Nat.{ℕ, _-_, _*_, _<_}
-use mathlib.Core.Path.{refl, sym, ap, _∙_, subst}
+use mathlib.Core.Path.{sym, ap, _∙_, subst}
 use native.Mathlib.Omega.{arith}
 use borrow.Author.Needs.{needs}
-use borrow.Author.Tests.{not-true, not-false}
 use borrow.Fn.Kinds.{In}
 use borrow.Fn.PlainCycle.{Measures, is, falls, and}
 use lib.ListN.{length, length-set}
 use lib.Seq.{sets}
 use Rattle.records.proofs.Frame.{framed-both}
 use Rattle.partial.specs.Partial.{Few}
-use Rattle.partial.proofs.Steps.{less-left}
+use Rattle.partial.proofs.Steps.{offer-after, less-left, may-take}
 use Rattle.partial.proofs.Rows.{found-as}
 use Rattle.partial.proofs.Whole.{few-found}
 use Rattle.matcher.proofs.Nodes.{closing-node}
-use Rattle.matcher.proofs.Writing.{Writing, closing-room, mark-room, split-room, write-skips, child-room, child-written, end-written, all-written}
+use Rattle.matcher.proofs.Writing.{Writing, closing-room, mark-room, split-room, writing-start, child-room, child-written, end-written, all-written}
 use Rattle.matcher.proofs.write_tree.Reads as reads
 use Rattle.matcher.proofs.write_tree.Kinds as kinds
 use Rattle.matcher.proofs.+write_tree.Lts-write_tree as lts
 use Rattle.answers.proofs.put.Reads as put
 use Rattle.partial.proofs.Wiring.first_dead.Reads as first-dead
-use Rattle.partial.proofs.Wiring.free.Reads as free
+use Rattle.partial.proofs.Wiring.offer.Reads as offer
 use Rattle.partial.proofs.Wiring.place.Reads as place
 use Rattle.partial.proofs.choice.Reads as choice
 use Rattle.matcher.proofs.+write_tree.{statement}
@@ -49,10 +48,10 @@ pub +write-tree-spec : {M : Type 1} → statement M
   first-dead.Learnt,
   put.Asked,
   put.Learnt,
+  offer.Asked,
+  offer.Learnt,
   choice.Asked,
   choice.Learnt,
-  free.Asked,
-  free.Learnt,
   place.Asked,
   place.Learnt,
   write-below t,
@@ -77,48 +76,36 @@ pub +write-tree-spec : {M : Type 1} → statement M
     (omega (arith, ap length closing), c .before .before .put .ensures ∙ ap (sets _ _) closing))
     (λ c. let h = c .before .before .before .before .before .pre .1 in let room = mark-room _ _ _ _ (h .0) (found-as _ _ (c .before .first-dead .ensures) (c .if1 .left)) _ _ (h .1 .1) in omega (arith, room))
     (λ c. let h = c .before .before .before .before .before .pre .1 in let room = mark-room _ _ _ _ (h .0) (found-as _ _ (c .before .first-dead .ensures) (c .if1 .left)) _ _ (h .1 .1) in omega (arith, room))
-    (λ c. record { within = omega arith; room = refl; long = refl; rest = refl })
-    (λ c. omega (arith, c .before .before .before .before .before .before .before .pre .1 .0 .few))
+    (λ c κs. (c .before .before .before .before .before .pre .1 .0, omega arith))
+    (λ c. writing-start _ _ _ _ (c .before .before .before .before .before .before .pre .1 .0) _ _ _ (c .offer .ensures))
+    (λ c. omega (arith, c .before .before .before .before .before .before .before .before .pre .1 .0 .few))
     (λ c κs. search needs)
-    (λ c. omega (arith, c .before .before .before .before .before .before .before .before .before .pre .1 .0 .few))
-    (λ c κs. c .before .before .before .before .before .before .before .before .before .pre .1 .0)
-    (λ c. omega arith)
-    (λ c.
-    let test = c .before .before .before in
-    let loop = test .before .before in
-    write-skips _ _ _ _ (loop .before .before .before .before .before .before .pre .1 .0) _ _ (test .if2 .taken) (c .before .before .choice .ensures) _ _ _ _ (loop .loop .inv) (sym (c .before .free .ensures) ∙ not-true _ (c .if3 .taken)))
-    (λ c κs. (c .before .before .before .before .before .before .before .before .before .before .before .pre .1 .0, sym (c .before .free .ensures) ∙ not-false _ (c .if3 .left)))
     (λ c κs.
-    let test = c .before .before .before .before .before in
-    let loop = test .before .before in
-    let start = loop .before .before .before .before .before .before in
+    let s = c .before .before .before .before .before .before .before .before .before .before .pre .1 .0 in
+    (s, may-take _ s _ _ (c .before .if2 .taken) (c .choice .ensures) (c .before .before .before .loop .inv .next)))
+    (λ c κs.
+    let loop = c .before .before .before .before .before in
+    let start = loop .before .before .before .before .before .before .before in
     let a = start .args in
     let h = start .pre .1 in
     let placed = c .before .place .ensures .0 in
-    let room = split-room _ _ _ _ (h .0) (found-as _ _ (loop .before .before .first-dead .ensures) (loop .before .if1 .left)) (a .out .now) (a .start) (h .1 .1) in (
+    let room = split-room _ _ _ _ (h .0) (found-as _ _ (loop .before .before .before .first-dead .ensures) (loop .before .before .if1 .left)) (a .out .now) (a .start) (h .1 .1) in (
       omega (arith, start .pre .0, less-left (a .w) (h .0) _ _ placed),
-      (
-        c .before .place .ensures .1,
-        (
-          h .1 .0,
-          child-room _ _ _ _ (h .0) _ _ (test .if2 .taken) (c .before .before .before .before .choice .ensures) _ _ _ _ (loop .loop .inv) (sym (c .before .before .before .free .ensures) ∙ not-false _ (c .before .before .if3 .left)) _ placed room,
-        ),
-      ),
+      (c .before .place .ensures .1, (h .1 .0, child-room _ _ _ _ (h .0) _ _ (c .before .before .before .if2 .taken) (c .before .before .choice .ensures) _ _ _ _ (loop .loop .inv) _ placed room)),
     ))
-    (λ c. omega arith)
+    (λ c. omega (arith, c .before .before .before .before .before .before .before .before .before .before .before .before .before .before .before .pre .1 .0 .few))
+    (λ c κs. (c .before .before .before .before .before .before .before .before .before .before .before .before .before .before .before .pre .1 .0, omega (arith, c .before .before .before .before .before .before .if2 .taken)))
+    (λ c. let after = offer-after _ _ _ _ (c .offer2 .ensures) in omega (arith, after, c .before .before .before .before .before .before .before .if2 .taken))
     (λ c.
-    let test = c .before .before .before .before .before .before .before .before in
-    let loop = test .before .before in
-    let written = c .before .before .write-tree .ensures in
-    child-written _ _ _ _ (loop .before .before .before .before .before .before .pre .1 .0) _ _ (test .if2 .taken) (c .before .before .before .before .before .before .before .choice .ensures) _ _ _ _ (loop .loop .inv) (sym (c .before .before .before .before .before .before .free .ensures) ∙ not-false _ (c .before .before .before .before .before .if3 .left)) _ (c .before .before .before .before .place .ensures .0) _ _
-    (written .0) (written .1))
-    (λ c. let a = c .before .before .before .before .before .before .before .before .args in c .before .before .loop .inv .room ∙ length-set (a .out .now) (a .start) 0xFF)
+    let written = c .before .before .before .write-tree .ensures in
+    child-written _ _ _ _ (c .before .before .before .before .before .before .before .before .before .before .before .before .before .before .before .before .pre .1 .0) _ _ (c .before .before .before .before .before .before .before .if2 .taken) (c .before .before .before .before .before .before .choice .ensures) _ _ _ _ (c .before .before .before .before .before .before .before .before .before .loop .inv) _ (c .before .before .before .before .before .place .ensures .0) _ _ (written .0) (written .1) _ (c .offer2 .ensures))
+    (λ c. let a = c .before .before .before .before .before .before .before .before .before .args in c .before .before .loop .inv .room ∙ length-set (a .out .now) (a .start) 0xFF)
     (λ c.
     let loop = c .before .before in
-    let start = loop .before .before .before .before .before .before in
+    let start = loop .before .before .before .before .before .before .before in
     let a = start .args in
     let s = start .pre .1 .0 in
-    let none-found = found-as _ _ (loop .before .before .first-dead .ensures) (loop .before .if1 .left) in (
+    let none-found = found-as _ _ (loop .before .before .before .first-dead .ensures) (loop .before .before .if1 .left) in (
       end-written _ _ _ _ s none-found (a .out .now) (a .start) _ (c .if2 .left) _ _ (loop .loop .inv),
       all-written _ _ _ _ s none-found (a .out .now) (a .start) _ (c .if2 .left) _ _ (loop .loop .inv),
     ))
