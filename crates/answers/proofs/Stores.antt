@@ -95,12 +95,22 @@ module _ (a : Answer) (kind needed : ℕ) (bytes before : List ℕ) (by-room : a
   delivered-whole h e after stored =
       delivered-bytes a bytes before after r (e ∙ sym (by-room ∙ fits-enough kind (length before) needed h)) (ap (λ (x : Answer). x .code) e) stored
 
--- where room is asked for last, an accepted answer has the bytes at the buffer's start
-pub delivered-stands : (a : Answer) (kind : ℕ) (bytes before after : List ℕ) (r : Answer) → (a .code ≡ 0 → a ≡ fits kind (length before) (length bytes))
-    → Delivered a bytes before after r → r .code ≡ 0 → Stands bytes before after (r .place)
-delivered-stands a kind bytes before after r by-room d e =
-    let good : a .code ≡ 0 = ap (λ (x : Answer). x .code) (sym (d .returned)) ∙ e in
-    let room = fits-sound kind (length before) (length bytes) (ap (λ (x : Answer). x .code) (sym (by-room good)) ∙ good) in
-    let is : r ≡ accepted kind (length bytes) = d .returned ∙ by-room good ∙ fits-enough kind (length before) (length bytes) room in
-    subst₂ (λ (l : List ℕ) (place : ℕ). Stands bytes before l place) (sym (d .buffer ∙ after-accepted a bytes before good)) (ap (λ (x : Answer). x .place) (sym is))
-    (sets-stands bytes before room)
+-- as a caller meets it: a refusal has changed nothing
+pub delivered-unchanged : (a : Answer) (bytes before after : List ℕ) (r : Answer) → Delivered a bytes before after r → (r .code ≡ 0 → ⊥) → after ≡ before
+delivered-unchanged a bytes before after r d bad = d .buffer ∙ after-refused a bytes before (λ z. bad (ap (λ (x : Answer). x .code) (d .returned) ∙ z))
+
+-- and where room was asked for last, an accepted answer tells the bytes' length, and they stand at the buffer's start
+module _ (a : Answer) (kind : ℕ) (bytes before after : List ℕ) (r : Answer) (by-room : a .code ≡ 0 → a ≡ fits kind (length before) (length bytes)) (d : Delivered a bytes before after r) (e : r .code ≡ 0) where
+  good : a .code ≡ 0
+  good = ap (λ (x : Answer). x .code) (sym (d .returned)) ∙ e
+
+  room : length bytes ≤ length before
+  room = fits-sound kind (length before) (length bytes) (ap (λ (x : Answer). x .code) (sym (by-room good)) ∙ good)
+
+  pub delivered-is : r ≡ accepted kind (length bytes)
+  delivered-is = d .returned ∙ by-room good ∙ fits-enough kind (length before) (length bytes) room
+
+  pub delivered-stands : Stands bytes before after (r .place)
+  delivered-stands =
+      subst₂ (λ (l : List ℕ) (place : ℕ). Stands bytes before l place) (sym (d .buffer ∙ after-accepted a bytes before good)) (ap (λ (x : Answer). x .place) (sym delivered-is))
+      (sets-stands bytes before room)

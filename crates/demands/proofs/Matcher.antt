@@ -15,7 +15,7 @@ use lib.ListN.{length, take}
 use Rattle.rules.proofs.Lists.{AfterNone}
 use Rattle.answers.specs.declared.Answer.{Answer}
 use Rattle.answers.specs.Answers.{accepted, refused, fits}
-use Rattle.answers.proofs.Stores.{fits-short, fits-enough, fits-sound, Stands, after-refused, delivered-stands}
+use Rattle.answers.proofs.Stores.{fits-short, fits-enough, Stands, delivered-unchanged, delivered-is, delivered-stands}
 use Rattle.records.specs.Records.{inputs, both-read, Bytes, Accepted}
 use Rattle.records.proofs.Frame.{both-good, both-sound, few-inputs}
 use Rattle.wirings.specs.Wirings.{is-wiring, wirings, agreeing}
@@ -94,25 +94,22 @@ module _ (κs : Lfts 3) (a : Dens κs find-kinds.ps) (r : resT find-kinds.r κs 
 
   -- where it refuses, no byte of the buffer changes
   pub find-refuses : (r .code ≡ 0 → ⊥) → after ≡ before
-  find-refuses bad = p .buffer ∙ after-refused _ _ _ (λ z. bad (ap (λ (x : Answer). x .code) (p .returned) ∙ z))
+  find-refuses bad = delivered-unchanged _ _ _ _ r p bad
 
   -- every place returned is at most the length of the longest refusal, so that it fits the host's number
   pub find-place : r .place ≤ 75323621
   find-place = subst (λ (x : Answer). x .place ≤ 75323621) (sym (p .returned)) (matching-place f g (length before))
 
-  -- where both functions are read, the claim is returned if the buffer holds it, and else its length
-  by-room : both-read f g .code ≡ 0 → r ≡ fits kind (length before) (length claim)
-  by-room read = p .returned ∙ matching-room f g (length before) read
-
-  enough : both-read f g .code ≡ 0 → length claim ≤ length before → r ≡ accepted kind (length claim)
-  enough read h = by-room read ∙ fits-enough kind (length before) (length claim) h
-
   module _ (ok : Accepted f g) where
+    -- where both functions are accepted, the claim is returned if the buffer holds it, and else its length
+    by-room : r ≡ fits kind (length before) (length claim)
+    by-room = p .returned ∙ matching-room f g (length before) (both-good f g ok)
+
     pub find-fits : length claim ≤ length before → r ≡ accepted kind (length claim)
-    find-fits = enough (both-good f g ok)
+    find-fits h = by-room ∙ fits-enough kind (length before) (length claim) h
 
     pub find-short : length before < length claim → r ≡ refused 18 4 (length claim)
-    find-short h = by-room (both-good f g ok) ∙ fits-short kind (length before) (length claim) h
+    find-short h = by-room ∙ fits-short kind (length before) (length claim) h
 
     -- a buffer for the longest refusal holds every claim
     pub find-answers : 75323621 ≤ length before → r .code ≡ 0
@@ -131,14 +128,17 @@ module _ (κs : Lfts 3) (a : Dens κs find-kinds.ps) (r : resT find-kinds.r κs 
     read : both-read f g .code ≡ 0
     read = matching-read f g (length before) (ap (λ (x : Answer). x .code) (sym (p .returned)) ∙ e)
 
+    by-claim : matching f g (length before) .code ≡ 0 → matching f g (length before) ≡ fits kind (length before) (length claim)
+    by-claim z = matching-room f g (length before) (matching-read f g (length before) z)
+
     is-accepted : r ≡ accepted kind (length claim)
-    is-accepted = enough read (fits-sound kind (length before) (length claim) (ap (λ (x : Answer). x .code) (sym (by-room read)) ∙ e))
+    is-accepted = delivered-is (matching f g (length before)) kind claim before after r by-claim p e
+
+    claim-stands : Stands claim before after (r .place)
+    claim-stands = delivered-stands (matching f g (length before)) kind claim before after r by-claim p e
 
     is-kind : kind ≡ r .kind
     is-kind = ap (λ (x : Answer). x .kind) (sym is-accepted)
-
-    claim-stands : Stands claim before after (r .place)
-    claim-stands = delivered-stands (matching f g (length before)) kind claim before after r (λ z. matching-room f g (length before) (matching-read f g (length before) z)) p e
 
     -- an accepted answer is a match or says "no match"
     pub find-kind : (r .kind ≡ 1) ⊎ (r .kind ≡ 2)

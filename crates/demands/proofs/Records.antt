@@ -12,7 +12,7 @@ use Rattle.bits.specs.Bits.{count}
 use Rattle.cubes.specs.Cubes.{some-cube, cube-names, some-holds, patterns-held, inputs-used}
 use Rattle.answers.specs.declared.Answer.{Answer}
 use Rattle.answers.specs.Answers.{accepted}
-use Rattle.answers.proofs.Stores.{Stands, after-refused}
+use Rattle.answers.proofs.Stores.{Stands, delivered-unchanged}
 use Rattle.records.specs.Records.{inputs, on-list, off-list}
 use Rattle.records.proofs.Frame.{record-sound, reading-accepted, reading-code, summing-accepted, summing-code}
 use Rattle.records.proofs.Meaning.{Both, accepted-apart, patterns-bound, inputs-bound}
@@ -42,7 +42,7 @@ write-read κs a r s p e =
 -- where it refuses, no byte of the buffer changes
 pub write-refuses : (κs : Lfts 3) (a : Dens κs write-kinds.ps) (r : resT write-kinds.r κs .Denot) (s : AtExit (endedOf 3 write-kinds.ps write-kinds.r) κs)
     → write.Post κs a r s → (r .code ≡ 0 → ⊥) → s .1 .1 .1 .0 .now ≡ a .1 .1 .1 .0 .now
-write-refuses κs a r s p bad = p .buffer ∙ after-refused _ _ _ (λ z. bad (ap (λ (x : Answer). x .code) (p .returned) ∙ z))
+write-refuses κs a r s p bad = delivered-unchanged _ _ _ _ r p bad
 
 -- an accepted record's own n and lists give its bytes again
 pub read-write : (κs : Lfts 1) (a : Dens κs read-kinds.ps) (r : resT read-kinds.r κs .Denot) (s : AtExit (endedOf 1 read-kinds.ps read-kinds.r) κs)
