@@ -12,6 +12,7 @@
 //! - `matches`: the matcher, likewise;
 //! - `cases`: the small functions and cases that 01 names, with its numbers;
 //! - `lent`: slices lent to a call, with known elements in them and around them;
+//! - `wrong`: what the tests of mistakes share;
 //! - `tally`, `show`: what was compared, and how bytes and answers are printed.
 
 pub mod calls;
@@ -25,3 +26,4 @@ pub mod reference;
 pub mod show;
 pub mod tally;
 pub mod wirings;
+pub mod wrong;

@@ -12,6 +12,7 @@ use zap_tests::reference::pattern::{patterns, Cube, Function, INPUTS};
 use zap_tests::reference::record::{cubes, first_bad_cube, function, read, CUBES, MARK};
 use zap_tests::reference::summary::summary;
 use zap_tests::reference::writer::write;
+use zap_tests::wrong::all_noticed;
 
 /// The reference in the form of the calls.
 const RIGHT: RecordCalls = RecordCalls {
@@ -57,10 +58,7 @@ fn the_reference_passes() {
 #[test]
 fn every_mistake_is_noticed() {
     let groups = [reader_mistakes(), summary_mistakes(), writer_mistakes(), fault_mistakes()];
-    for (name, calls, sweep) in groups.concat() {
-        let difference = sweep(&mut Trial::new(calls)).err();
-        assert!(difference.is_some(), "not noticed: {name}");
-    }
+    all_noticed(groups.concat(), Trial::new);
 }
 
 type Mistake = (&'static str, RecordCalls, Sweep);

@@ -13,6 +13,7 @@ use zap_tests::reference::two::{two, Two};
 use zap_tests::reference::wiring::{BadWiring, Choice, Partial};
 use zap_tests::wirings::sweeps::{self, Sweep};
 use zap_tests::wirings::Trial;
+use zap_tests::wrong::all_noticed;
 
 /// The reference in the form of the call.
 const RIGHT: DeadCall = |f, g, w, q| find(f, g, w, q).packed();
@@ -26,10 +27,7 @@ fn the_reference_passes() {
 
 #[test]
 fn every_mistake_is_noticed() {
-    for (name, call, sweep) in [separation(), order(), phase(), refusals()].concat() {
-        let difference = sweep(&mut Trial::new(call)).err();
-        assert!(difference.is_some(), "not noticed: {name}");
-    }
+    all_noticed([separation(), order(), phase(), refusals()].concat(), Trial::new);
 }
 
 type Mistake = (&'static str, DeadCall, Sweep);

@@ -1,11 +1,12 @@
 //! Wrong answers, made from the right one.
 
+use zap_tests::claims::sweeps::Sweep;
 use zap_tests::claims::{sweeps, Call};
 use zap_tests::reference::answer::{Answer, ALL_ELSE, MATCH, NO_MATCH, OF_CLAIM, OF_F, OF_G};
 use zap_tests::reference::checker::{check, Checked, Node, NodeByte};
 use zap_tests::reference::claim::{MATCH_MARK, REFUSAL_MARK, SPLIT, TREES, WIRING};
-use zap_tests::reference::record::function;
 use zap_tests::reference::wiring::Choice;
+use zap_tests::wrong::{Reading, READINGS};
 
 use super::Mistake;
 
@@ -411,26 +412,14 @@ fn at_the_node(asked: &Asked) -> Answer {
     }
 }
 
+/// A wrong reading of the records.
+fn read(other: Reading) -> Call {
+    Box::new(move |f, g, claim| other(f, g, check(f, g, claim).answer).packed())
+}
+
 fn records() -> Vec<Mistake> {
-    vec![
-        (
-            "9 before the faults of g",
-            told(|asked| match asked.right.record {
-                OF_G if asked.g.len() > 2 && asked.g[2] != asked.f[2] => {
-                    Answer::refused(9, OF_G, 2)
-                }
-                _ => asked.right,
-            }),
-            sweeps::bad_records,
-        ),
-        (
-            "g before f",
-            told(|asked| match asked.right.record {
-                OF_F => function(asked.g, OF_G).err().unwrap_or(asked.right),
-                _ => asked.right,
-            }),
-            sweeps::bad_records,
-        ),
+    let readings = READINGS.map(|(name, other)| (name, read(other), sweeps::bad_records as Sweep));
+    let others: [Mistake; 2] = [
         (
             "the claim before 9",
             told(|asked| match asked.right.code {
@@ -440,25 +429,10 @@ fn records() -> Vec<Mistake> {
             sweeps::bad_records,
         ),
         (
-            "9 with record 1",
-            told(|asked| match asked.right.code {
-                9 => Answer { record: OF_F, ..asked.right },
-                _ => asked.right,
-            }),
-            sweeps::bad_records,
-        ),
-        (
-            "the faults of g with record 1",
-            told(|asked| match (asked.right.record, asked.right.code) {
-                (OF_G, 1..=8) => Answer { record: OF_F, ..asked.right },
-                _ => asked.right,
-            }),
-            sweeps::bad_records,
-        ),
-        (
             "f and g changed places",
             told(|asked| check(asked.g, asked.f, asked.claim).answer),
             sweeps::match_claims,
         ),
-    ]
+    ];
+    readings.into_iter().chain(others).collect()
 }

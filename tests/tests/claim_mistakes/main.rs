@@ -12,6 +12,7 @@ mod rules;
 
 use zap_tests::claims::sweeps::{self, Sweep};
 use zap_tests::claims::{Call, Trial};
+use zap_tests::wrong::all_noticed;
 
 /// What is wrong, the wrong call, and the sweep that has to notice.
 type Mistake = (&'static str, Call, Sweep);
@@ -27,8 +28,5 @@ fn the_reference_passes() {
 
 #[test]
 fn every_mistake_is_noticed() {
-    for (name, call, sweep) in answers::mistakes().into_iter().chain(rules::mistakes()) {
-        let difference = sweep(&mut Trial::new(call)).err();
-        assert!(difference.is_some(), "not noticed: {name}");
-    }
+    all_noticed(answers::mistakes().into_iter().chain(rules::mistakes()), Trial::new);
 }

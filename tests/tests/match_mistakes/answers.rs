@@ -1,11 +1,12 @@
 //! Wrong answers and wrong bytes, made from the right ones.
 
+use zap_tests::matches::sweeps::Sweep;
 use zap_tests::matches::{sweeps, Call};
 use zap_tests::reference::answer::{Answer, ALL_ELSE, MATCH, NO_MATCH, OF_BUFFER, OF_CLAIM};
 use zap_tests::reference::answer::{OF_F, OF_G};
 use zap_tests::reference::claim::{MATCH_MARK, REFUSAL_MARK, TREES, WIRING};
 use zap_tests::reference::matcher::find;
-use zap_tests::reference::record::function;
+use zap_tests::wrong::{Reading, READINGS};
 
 use super::{kind, Mistake};
 
@@ -21,7 +22,6 @@ pub fn unchanged() -> Call {
 /// What was asked, and what is right.
 struct Asked<'a> {
     f: &'a [u8],
-    g: &'a [u8],
     room: usize,
     right: Answer,
     /// The claim if the records are accepted, whether or not there is room for it.
@@ -64,7 +64,7 @@ fn by(Rules { tell, write }: Rules) -> Call {
         let room = out.len();
         let (right, _) = find(f, g, room);
         let claim = find(f, g, usize::MAX).1.unwrap_or_default();
-        let asked = Asked { f, g, room, right, claim };
+        let asked = Asked { f, room, right, claim };
         write(&asked, out);
         tell(&asked).packed()
     })
@@ -442,46 +442,18 @@ fn all_but(place: fn(&[u8]) -> usize) -> Call {
     })
 }
 
+/// A wrong reading of the records.
+fn read(other: Reading) -> Call {
+    Box::new(move |f, g, out| other(f, g, Answer::unpacked(unchanged()(f, g, out))).packed())
+}
+
 fn records() -> Vec<Mistake> {
-    vec![
-        (
-            "9 before the faults of g",
-            told(|asked| match asked.right.record {
-                OF_G if asked.g.len() > 2 && asked.g[2] != asked.f[2] => {
-                    Answer::refused(9, OF_G, 2)
-                }
-                _ => asked.right,
-            }),
-            sweeps::bad_records,
-        ),
-        (
-            "g before f",
-            told(|asked| match asked.right.record {
-                OF_F => function(asked.g, OF_G).err().unwrap_or(asked.right),
-                _ => asked.right,
-            }),
-            sweeps::bad_records,
-        ),
-        (
-            "9 for f",
-            told(|asked| match asked.right.code {
-                9 => Answer { record: OF_F, ..asked.right },
-                _ => asked.right,
-            }),
-            sweeps::bad_records,
-        ),
+    let readings = READINGS.map(|(name, other)| (name, read(other), sweeps::bad_records as Sweep));
+    let others: [Mistake; 2] = [
         (
             "9 at the start",
             told(|asked| match asked.right.code {
                 9 => Answer { place: 0, ..asked.right },
-                _ => asked.right,
-            }),
-            sweeps::bad_records,
-        ),
-        (
-            "the faults of g told of f",
-            told(|asked| match (asked.right.record, asked.right.code) {
-                (OF_G, 1..=8) => Answer { record: OF_F, ..asked.right },
                 _ => asked.right,
             }),
             sweeps::bad_records,
@@ -494,5 +466,6 @@ fn records() -> Vec<Mistake> {
             }),
             sweeps::bad_records,
         ),
-    ]
+    ];
+    readings.into_iter().chain(others).collect()
 }

@@ -14,6 +14,7 @@ use zap_tests::matches::sweeps::{self, Sweep};
 use zap_tests::matches::{Call, Trial};
 use zap_tests::reference::answer::{MATCH, NO_MATCH};
 use zap_tests::reference::claim::MATCH_MARK;
+use zap_tests::wrong::all_noticed;
 
 /// What is wrong, the wrong call, and the sweep that has to notice.
 type Mistake = (&'static str, Call, Sweep);
@@ -29,10 +30,7 @@ fn the_reference_passes() {
 
 #[test]
 fn every_mistake_is_noticed() {
-    for (name, call, sweep) in answers::mistakes().into_iter().chain(rules::mistakes()) {
-        let difference = sweep(&mut Trial::new(call)).err();
-        assert!(difference.is_some(), "not noticed: {name}");
-    }
+    all_noticed(answers::mistakes().into_iter().chain(rules::mistakes()), Trial::new);
 }
 
 /// The kind of a claim.
