@@ -1,14 +1,12 @@
 -- From a node to its children. The idea: the choices that may follow are offered one by one, in order; what is left to offer from a
 -- place on begins with the choice there, and goes on at the next place that is offered.
-use Prim.Native.Nat.{ℕ, zero, suc, _+_, _-_, _*_, _/_, _^_, _≤_, _<_}
+use Prim.Native.Nat.{ℕ, zero, suc, _+_, _-_, _*_, _≤_, _<_}
 use mathlib.Core.Path.{_≡_, refl, sym, ap, ap₂, _∙_, subst}
-use mathlib.Core.Bool.{Bool, true, false, not, _&&_}
+use mathlib.Core.Bool.{Bool, true, false, _&&_}
 use mathlib.Core.List.{List, [], _∷_}
 use mathlib.Core.Logic.{⊎-elim}
 use native.Mathlib.Nat.{add-zero, eq-or-lt-of-le}
 use native.Mathlib.Omega.{arith}
-use lib.Bits.{bitAnd, and-mask}
-use lib.Dec.{eqb}
 use lib.ListN.{length, length-append, drop-of-length-le}
 use Rattle.bits.proofs.Tests.{decide}
 use Rattle.rules.specs.Lists.{passed-over}
@@ -17,7 +15,7 @@ use Rattle.wirings.specs.Wirings.{choices-from, choice-at, free-choice}
 use Rattle.wirings.proofs.Choices.{choices-at, choices-length, choice-at-is, offered, offered-skip, offered-take}
 use Rattle.partial.specs.declared.Wiring.{Wiring}
 use Rattle.partial.specs.Partial.{StandsFor, Formed, prefix, may-place, offer-from}
-use Rattle.partial.proofs.Standing.{stands-n, stands-depth, placed-within, free-masks}
+use Rattle.partial.proofs.Standing.{stands-n, stands-depth, placed-within}
 
 -- ---- the next place that is offered
 
@@ -97,13 +95,6 @@ module _ (r : Wiring) (s : Formed r) where
     pub tested : may-place r b ≡ free-choice w (choice-at k)
     tested =
         ap (may-place r) is ∙ ap (λ (t : Bool). t && free-choice w (choice-at k)) (choice-at-is n (omega (arith, s .few)) k h)
-
-    -- and what its mask of free inputs says
-    pub free-at : not (eqb (bitAnd (r .free / 2 ^ (k / 2)) 1) 0) ≡ free-choice w (choice-at k)
-    free-at =
-        let low : choice-at k < 32 = omega (arith, s .few) in
-        let input : bitAnd (choice-at k) 15 ≡ k / 2 = and-mask (choice-at k) 4 ∙ omega (arith, s .few) in
-        ap (λ (j : ℕ). not (eqb (bitAnd (r .free / 2 ^ j) 1) 0)) (sym input) ∙ free-masks r (choice-at k) s low ∙ ap (may-place r) (sym is) ∙ tested
 
     module _ (here : Next n w k) where
       pub may-take : may-place r b ≡ true

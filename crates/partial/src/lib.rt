@@ -198,7 +198,7 @@ impl Wiring {
     {
         let mut k = c;
         while k < 2 * self.n {
-            if (self.free >> (k >> 1)) & 1 != 0 {
+            if self.free(choice(k)) {
                 return k;
             }
             k += 1;
