@@ -12,7 +12,7 @@ use lib.Bits.{bitAnd, bitOr, bitXor, differ, and-step, or-step, xor-step, and-sh
 use lib.Dec.{eqb}
 use lib.Arith.{lt-one}
 use lib.Pow.{pow-pos, pow-mono, pow-lt, pow-add, shr-lt, shr-shr, shl-shr, field, mod-mod-pow, high, low}
-use lib.Count.{ones, ones-step}
+use lib.Count.{ones, ones-step, under, trailingZeros}
 use Rattle.bits.specs.Bits.{bit, has, number, any, count}
 use Rattle.bits.proofs.Tests.{decide, below-or-not}
 use Rattle.bits.proofs.Below.{below-suc, any-if, any-none, count-low, count-same}
@@ -201,6 +201,27 @@ ones-count zero x h = ap ones (lt-one h)
 ones-count (suc k) x h =
     let up = ones-count k (x / 2) (shr-lt k 1 (subst (λ (m : ℕ). x < 2 ^ m) (sym (add-one k)) h)) in
     ones-step x ∙ ap₂ _+_ (sym (counted x 0 ∙ bit-low x)) (up ∙ count-same (has (x / 2)) (λ i. has x (suc i)) k (λ i l. ap (λ (b : ℕ). eqb b 1) (sym (bit-suc i x)))) ∙ sym (count-low (has x) k)
+
+-- ---- the zeros below the lowest one: each is 0, and above them, unless all k are zeros, stands a 1
+
+pub trailing-zero : (k x i : ℕ) → i < trailingZeros k x → bit i x ≡ 0
+unfolding trailingZeros
+trailing-zero zero x i h = absurd (not-suc-le-zero h)
+trailing-zero (suc k) x i h = go (x % 2) refl i h (trailing-zero k (x / 2))
+  where
+    go : (d : ℕ) → x % 2 ≡ d → (i : ℕ) → i < under d (trailingZeros k (x / 2)) → ((i : ℕ) → i < trailingZeros k (x / 2) → bit i (x / 2) ≡ 0) → bit i x ≡ 0
+    go zero e zero h later = bit-low x ∙ e
+    go zero e (suc i) h later = bit-suc i x ∙ later i (le-of-suc-le-suc h)
+    go (suc d) e i h later = absurd (not-suc-le-zero h)
+
+pub trailing-one : (k x : ℕ) → trailingZeros k x < k → bit (trailingZeros k x) x ≡ 1
+unfolding trailingZeros
+trailing-one zero x h = absurd (not-suc-le-zero h)
+trailing-one (suc k) x h = go (x % 2) refl (mod-lt x (zero-lt-suc 1)) h (trailing-one k (x / 2))
+  where
+    go : (d : ℕ) → x % 2 ≡ d → x % 2 < 2 → under d (trailingZeros k (x / 2)) < suc k → (trailingZeros k (x / 2) < k → bit (trailingZeros k (x / 2)) (x / 2) ≡ 1) → bit (under d (trailingZeros k (x / 2))) x ≡ 1
+    go zero e l h later = bit-suc (trailingZeros k (x / 2)) x ∙ later (le-of-suc-le-suc h)
+    go (suc d) e l h later = bit-low x ∙ omega arith
 
 -- ---- the number with given bits
 

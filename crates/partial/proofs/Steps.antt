@@ -36,6 +36,13 @@ module _ (n : ℕ) (w : List ℕ) where
         let past : length (choices-from 0 n) ≤ k = omega (arith, choices-length 0 n) in
         simp (drop-of-length-le (choices-from 0 n) past) (add-zero k)
 
+  -- places that are not free are passed over
+  pub skip-to : (m c : ℕ) → ((k : ℕ) → c ≤ k → k < c + m → (k < 2 * n) × (free-choice w (choice-at k) ≡ false)) → offer-from n w c ≡ offer-from n w (c + m)
+  skip-to zero c h = ap (offer-from n w) (sym (add-zero c))
+  skip-to (suc m) c h =
+      let here = h c (omega arith) (omega arith) in
+      offer-later c (here .0) (here .1) ∙ skip-to m (c + 1) (λ k l u. h k (omega arith) (omega arith)) ∙ ap (offer-from n w) (omega arith)
+
   pub offer-after : (c k : ℕ) → k ≡ offer-from n w c → c ≤ k
   unfolding offer-from
   offer-after c k e = omega arith

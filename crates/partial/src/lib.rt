@@ -190,20 +190,19 @@ impl Wiring {
         (self.free as u32 >> (choice & 15)) & 1 != 0
     }
 
-    // The first place from c on, in the order of choices, whose choice is free; 2n if there is none.
+    // The first place from c on, in the order of choices, whose choice is free; 2n if there is none. Place c is of input c / 2 of
+    // g: if that is free, c itself, and else the plain choice of the next input that is, where n stands for none.
     pub fn offer(self, c: u8) -> u8
         requires { ⌜ Formed self ⌝ }
         requires { ⌜ c ≤ 2 * self .n ⌝ }
         ensures { λ r. ⌜ r ≡ offer-from (self .n) (prefix self) c ⌝ }
     {
-        let mut k = c;
-        while k < 2 * self.n {
-            if self.free(choice(k)) {
-                return k;
-            }
-            k += 1;
+        let j = c >> 1;
+        let left = (self.free as u32 | (1u32 << self.n)) >> j;
+        if left & 1 != 0 {
+            return c;
         }
-        k
+        2 * (j + u32::trailing_zeros(left) as u8)
     }
 
     // The next input of f is given its choice.
