@@ -74,16 +74,17 @@ module _ (r : Wiring) (s : Formed r) where
       abbrev zeros : ℕ
       zeros = trailingZeros 32 left
 
+      -- up to it no input is marked
+      unmarked : (j : ℕ) → c / 2 ≤ j → j < c / 2 + zeros → has marks j ≡ false
+      unmarked j l u =
+          let same : c / 2 + (j - c / 2) ≡ j = omega arith in
+          ap (has marks) (sym same) ∙ sym (has-shr marks (c / 2) (j - c / 2)) ∙ ap (λ (b : ℕ). eqb b 1) (trailing-zero 32 left (j - c / 2) (omega arith))
+
+      -- so it is n at the latest
       pub zeros-fit : c / 2 + zeros ≤ n
       zeros-fit =
-          ⊎-elim
-          (λ (h : n < c / 2 + zeros).
-          let i : ℕ = n - c / 2 in
-          let same : c / 2 + i ≡ n = omega arith in
-          let gone = ap (λ (b : ℕ). eqb b 1) (trailing-zero 32 left i (omega arith)) in
-          absurd (true≢false (sym (or-right (ltb n n && unused w n) (eq-eqb n n refl)) ∙ sym (marked n) ∙ ap (has marks) (sym same) ∙ sym (has-shr marks (c / 2) i) ∙ gone)))
-          (λ (h : c / 2 + zeros ≤ n). h)
-          (below-or-not n (c / 2 + zeros))
+          ⊎-elim (λ (h : n < c / 2 + zeros). absurd (true≢false (sym (or-right (ltb n n && unused w n) (eq-eqb n n refl)) ∙ sym (marked n) ∙ unmarked n (omega arith) h)))
+          (λ (h : c / 2 + zeros ≤ n). h) (below-or-not n (c / 2 + zeros))
 
       pub offers-further : 2 * (c / 2 + zeros) ≡ offer-from n w c
       offers-further =
@@ -93,17 +94,11 @@ module _ (r : Wiring) (s : Formed r) where
           let half : k / 2 ≡ c / 2 + zeros = omega arith in
           let there = here k (omega (arith, zeros-fit)) (ap (has marks) half ∙ sym (has-shr marks (c / 2) zeros) ∙ eq-eqb (bit zeros left) 1 one) in
           let whole : c + (k - c) ≡ k = omega arith in
-          sym (skip-to n w (k - c) c (λ j l u. between j l (omega (arith, whole))) ∙ ap (offer-from n w) whole ∙ there)
+          let before : (j : ℕ) → c ≤ j → j < c + (k - c) → (j < 2 * n) × (free-choice w (choice-at j) ≡ false) =
+          λ j l u. away j (omega (arith, zeros-fit, whole)) (unmarked (j / 2) (omega arith) (omega (arith, whole))) in
+          sym (skip-to n w (k - c) c before ∙ ap (offer-from n w) whole ∙ there)
         where
           -- a bit that is 1 is not the lowest
           above : (t : ℕ) → bit t left ≡ 1 → 1 ≤ t
           above zero o = absurd (omega (arith, bit-low left, and-mask left 1))
           above (suc t) o = omega arith
-
-          -- the places before it are not offered
-          between : (j : ℕ) → c ≤ j → j < 2 * (c / 2 + zeros) → (j < 2 * n) × (free-choice w (choice-at j) ≡ false)
-          between j l u =
-              let i : ℕ = j / 2 - c / 2 in
-              let same : c / 2 + i ≡ j / 2 = omega arith in
-              let gone = ap (λ (b : ℕ). eqb b 1) (trailing-zero 32 left i (omega arith)) in
-              away j (omega (arith, zeros-fit)) (ap (has marks) (sym same) ∙ sym (has-shr marks (c / 2) i) ∙ gone)
