@@ -25,7 +25,7 @@ first-agreeing f g = first (agreeing f g) (wirings (inputs g))
 abbrev pub own-refusal : List ℕ → List ℕ → List ℕ
 own-refusal f g = refusal-claim (inputs g) (own-tree (inputs g) 0 f g []) (own-tree (inputs g) 1 f g [])
 
--- the claim for a wiring that was found, and where none was
+-- the claim for a wiring that was found, and where none was; and its kind
 unfoldable pub claim-of : List ℕ → List ℕ → Option (List ℕ) → List ℕ
 claim-of f g (some v) = match-claim (inputs g) v
 claim-of f g none = own-refusal f g
