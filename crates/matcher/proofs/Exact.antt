@@ -1,19 +1,19 @@
 -- What the matcher's claim says. The idea: the wiring that is claimed is the first of the list that agrees; and where none agrees, the
 -- matcher's own two trees are right, so that the claim is a refusal by the rules. Either is no longer than the longest refusal.
-use Prim.Native.Nat.{ℕ, _≤_, _<_}
+use Prim.Native.Nat.{ℕ, _+_, _≤_, _<_}
 use mathlib.Core.Path.{_≡_, refl, ap}
 use mathlib.Core.Bool.{true, false}
 use mathlib.Core.List.{List, [], _∷_}
 use mathlib.Core.Option.{Option, none, some}
 use mathlib.Core.Logic.{_⊎_, inl, inr}
-use native.Mathlib.Nat.{le-trans, sub-zero}
+use native.Mathlib.Nat.{le-trans}
 use native.Mathlib.Omega.{arith}
 use lib.Dec.{ltb}
 use lib.ListN.{length, length-append}
 use Rattle.bits.proofs.Tests.{cond-cases}
 use Rattle.rules.specs.Rules.{completions, follows}
 use Rattle.rules.proofs.Lists.{In, none-first, first-found, AfterNone, first-after}
-use Rattle.rules.proofs.Cut.{reached-start, whole-reached}
+use Rattle.rules.proofs.Cut.{start-reached}
 use Rattle.answers.specs.declared.Answer.{Answer}
 use Rattle.answers.specs.Answers.{fits, _or-else_}
 use Rattle.answers.proofs.Faults.{chosen-elim, or-else-both, or-else-next}
@@ -22,11 +22,11 @@ use Rattle.records.proofs.Frame.{record-sound, both-fine}
 use Rattle.records.proofs.Places.{both-place}
 use Rattle.wirings.specs.Wirings.{straight, is-wiring, wirings, agrees, agreeing}
 use Rattle.wirings.proofs.Wirings.{parts-wiring, wiring-in, in-wiring}
-use Rattle.claims.specs.Trees.{tree-bytes, longest-tree}
 use Rattle.claims.specs.Claims.{IsMatch, IsRefusal, own-tree}
-use Rattle.claims.proofs.Refusals.{match-length, longest-most}
-use Rattle.claims.proofs.Own.{own-right-for, own-most}
-use Rattle.matcher.specs.Matching.{first-agreeing, claim-of, kind-found, claim-for, matching}
+use Rattle.claims.proofs.Refusals.{match-length}
+use Rattle.claims.proofs.Own.{own-right-for}
+use Rattle.matcher.specs.Matching.{first-agreeing, own-refusal, claim-of, kind-found, claim-for, matching}
+use Rattle.matcher.proofs.Nodes.{node-bytes, node-most}
 
 module _ (f g : List ℕ) where
   -- ---- the first agreeing wiring
@@ -47,9 +47,8 @@ module _ (f g : List ℕ) where
     -- whatever its phase
     none-in : (q : ℕ) → q < 2 → (w : List ℕ) → In w (completions (straight (inputs g)) (inputs g) []) → agrees q f g w ≡ false
     none-in q h w i =
-        let n = inputs g in
-        let r = whole-reached (straight n) n n [] (reached-start (straight n) n) w i in
-        none-agree (q ∷ w) (parts-wiring n q w h (omega (arith, r .total)) (r .allowed))
+        let r = start-reached (straight (inputs g)) (inputs g) w i in
+        none-agree (q ∷ w) (parts-wiring (inputs g) q w h (omega (arith, r .total)) (r .allowed))
 
   -- ---- the claim
 
@@ -68,20 +67,18 @@ module _ (f g : List ℕ) where
     bytes = ap (claim-of f g) e;
   }
 
+  -- the refusal is three bytes and the bytes of two trees
+  pub refusal-parts : length (own-refusal f g) ≡ 3 + length (node-bytes (inputs g) 0 f g []) + length (node-bytes (inputs g) 1 f g [])
+  refusal-parts = omega (arith, length-append (node-bytes (inputs g) 0 f g []) (node-bytes (inputs g) 1 f g []))
+
   -- no claim is longer than the longest refusal, whatever the functions
   pub claim-most : inputs g ≤ 8 → length (claim-for f g) ≤ 75323621
   unfolding claim-of follows
   claim-most few = go (first-agreeing f g) refl
     where
-      n : ℕ
-      n = inputs g
-
-      short : (q : ℕ) → length (tree-bytes (own-tree n q f g [])) ≤ longest-tree n
-      short q = rw sub-zero at (own-most n q f g [] few refl (omega arith))
-
       go : (o : Option (List ℕ)) → first-agreeing f g ≡ o → length (claim-of f g o) ≤ 75323621
       go (some v) e = omega (arith, match-length f g (claim-for f g) (claim-match v e), ap (λ (o : Option (List ℕ)). length (claim-of f g o)) e)
-      go none e = omega (arith, short 0, short 1, longest-most n few, length-append (tree-bytes (own-tree n 0 f g [])) (tree-bytes (own-tree n 1 f g [])))
+      go none e = omega (arith, refusal-parts, node-most (inputs g) 0 f g [] few refl, node-most (inputs g) 1 f g [] few refl)
 
 -- ---- the whole answer
 

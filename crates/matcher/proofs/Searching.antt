@@ -27,6 +27,10 @@ use Rattle.matcher.proofs.Nodes.{node-bytes, branches, first-among, clo
 
 -- ---- what a search came to
 
+-- what the search of a node has to come to
+abbrev pub Comes : ℕ → ℕ → List ℕ → List ℕ → List ℕ → Outcome → Type 0
+Comes n q f g w o = o ≡ searched (first-from n q f g w) (length (node-bytes n q f g w))
+
 pub came-some : (o : Option (List ℕ)) (long : ℕ) (r : Outcome) → r ≡ searched o long → r .found ≡ true → (v : List ℕ) × (o ≡ some v) × (r .choices ≡ as-number v)
 unfolding searched
 came-some none long r e h = absurd (true≢false (sym h ∙ ap (λ (r : Outcome). r .found) e))
@@ -57,10 +61,6 @@ module _ (r : Wiring) (q : ℕ) (f g : List ℕ) where
   abbrev first-later : ℕ → Option (List ℕ)
   first-later k = first-among n q f g w (offered n w k)
 
-  -- what the search of the node has to come to
-  abbrev pub Answers : Outcome → Type 0
-  Answers o = o ≡ searched (first-from n q f g w) (length bytes)
-
   -- the choices before k gave none, and FF and their trees have so many bytes
   pub record Searching (k so-far : ℕ) : Type 0 where
     pub next : Next n w k
@@ -70,13 +70,13 @@ module _ (r : Wiring) (q : ℕ) (f g : List ℕ) where
   module _ (s : Formed r) where
     -- a node with a dead pair, or a whole wiring without one
     module _ (d : Death (straight n) n (agrees q f g) (some-dead n q f g)) where
-      pub searched-dead : found (first-dead n q f g w) .found ≡ true → Answers (record { found = false; choices = 0; length = 3 })
+      pub searched-dead : found (first-dead n q f g w) .found ≡ true → Comes n q f g w (record { found = false; choices = 0; length = 3 })
       unfolding searched
       searched-dead e =
           let p = found-some (first-dead n q f g w) e in
           sym (ap₂ searched (first-closed n q f g w (s .few) (s .allowed) d (p .0) (p .1)) (ap length (closed n q f g w (p .0) (p .1))))
 
-      pub searched-whole : found (first-dead n q f g w) .found ≡ false → r .depth ≡ n → Answers (record { found = true; choices = r .choices; length = 0 })
+      pub searched-whole : found (first-dead n q f g w) .found ≡ false → r .depth ≡ n → Comes n q f g w (record { found = true; choices = r .choices; length = 0 })
       unfolding searched
       searched-whole e h =
           ap (λ (c : ℕ). record { found = true; choices = c; length = 0 }) (stands-choices r n w s)
@@ -94,7 +94,7 @@ module _ (r : Wiring) (q : ℕ) (f g : List ℕ) where
 
     -- the choice at a place that is offered, and what the search of its child came to
     module _ (k b : ℕ) (h : k < 2 * n) (is : b ≡ choice-at k) (so-far : ℕ) (i : Searching k so-far) (r′ : Wiring) (placed : StandsFor r′ n (w adding b)) (child : Outcome)
-        (came : child ≡ searched (first-from (r′ .n) q f g (prefix r′)) (length (node-bytes (r′ .n) q f g (prefix r′)))) where
+        (came : Comes (r′ .n) q f g (prefix r′) child) where
       abbrev child-first : Option (List ℕ)
       child-first = first-from (r′ .n) q f g (prefix r′)
 
@@ -108,7 +108,7 @@ module _ (r : Wiring) (q : ℕ) (f g : List ℕ) where
           ∙ sym (stands-as r′ n (w adding b) placed (λ m v. first-from m q f g v else first-later k′))
 
       -- it gives the first
-      pub child-found : child .found ≡ true → Answers child
+      pub child-found : child .found ≡ true → Comes n q f g w child
       unfolding searched _else_
       child-found e =
           let x = came-some child-first (length child-bytes) child came e in
@@ -132,7 +132,7 @@ module _ (r : Wiring) (q : ℕ) (f g : List ℕ) where
         sum-fits = omega (arith, child-none (offer-from n w (k + 1)) refl .long, node-most n q f g w (s .few) (s .allowed))
 
     -- after the last choice
-    pub searched-all : (k : ℕ) → 2 * n ≤ k → (so-far : ℕ) → Searching k so-far → Answers (record { found = false; choices = 0; length = so-far })
+    pub searched-all : (k : ℕ) → 2 * n ≤ k → (so-far : ℕ) → Searching k so-far → Comes n q f g w (record { found = false; choices = 0; length = so-far })
     unfolding searched first-of tree-each trees-bytes
     searched-all k h so-far i =
         let over = offered-end n w k h in

@@ -52,21 +52,24 @@ module _ (n : ℕ) (w : List ℕ) where
     pub within : k ≤ 2 * n
     pub free : k < 2 * n → free-choice w (choice-at k) ≡ true
 
-  -- what is offered from c on is offered from the next such place on
-  offers-left : (m c : ℕ) → c + m ≡ 2 * n → Next (offer-from n w c) × (offered n w c ≡ offered n w (offer-from n w c))
+  -- k is the next such place from c on: what is offered from c on is offered from k on
+  abbrev Offers : ℕ → ℕ → Type 0
+  Offers c k = Next k × (offered n w c ≡ offered n w k)
+
+  offers-left : (m c : ℕ) → c + m ≡ 2 * n → Offers c (offer-from n w c)
   offers-left zero c e =
       let over : 2 * n ≤ c = omega arith in
-      subst (λ (k : ℕ). Next k × (offered n w c ≡ offered n w k)) (sym (offer-end c over)) (record { within = omega arith; free = λ h. absurd (omega arith) }, refl)
+      subst (Offers c) (sym (offer-end c over)) (record { within = omega arith; free = λ h. absurd (omega arith) }, refl)
   offers-left (suc m) c e =
       let h : c < 2 * n = omega arith in
-      ⊎-elim (λ (p : free-choice w (choice-at c) ≡ true). subst (λ (k : ℕ). Next k × (offered n w c ≡ offered n w k)) (sym (offer-here c h p)) (record { within = omega arith; free = λ _. p }, refl))
+      ⊎-elim (λ (p : free-choice w (choice-at c) ≡ true). subst (Offers c) (sym (offer-here c h p)) (record { within = omega arith; free = λ _. p }, refl))
       (λ (p : free-choice w (choice-at c) ≡ false).
       let i = offers-left m (c + 1) (omega arith) in
-      subst (λ (k : ℕ). Next k × (offered n w c ≡ offered n w k)) (sym (offer-later c h p)) (i .0, offered-skip n w c h p ∙ i .1))
+      subst (Offers c) (sym (offer-later c h p)) (i .0, offered-skip n w c h p ∙ i .1))
       (decide (free-choice w (choice-at c)))
 
-  pub offers : (c k : ℕ) → c ≤ 2 * n → k ≡ offer-from n w c → Next k × (offered n w c ≡ offered n w k)
-  offers c k h e = subst (λ (k : ℕ). Next k × (offered n w c ≡ offered n w k)) (sym e) (offers-left (2 * n - c) c (omega arith))
+  pub offers : (c k : ℕ) → c ≤ 2 * n → k ≡ offer-from n w c → Offers c k
+  offers c k h e = subst (Offers c) (sym e) (offers-left (2 * n - c) c (omega arith))
 
 -- ---- as the code meets it, with the choices in a wiring by value
 
@@ -99,7 +102,7 @@ module _ (r : Wiring) (s : Formed r) where
 
   module _ (k b : ℕ) (h : k < 2 * n) (is : b ≡ choice-at k) where
     -- what the wiring's test says of the choice at a place
-    pub tested : may-place r b ≡ free-choice w (choice-at k)
+    tested : may-place r b ≡ free-choice w (choice-at k)
     tested =
         ap (may-place r) is ∙ ap (λ (t : Bool). t && free-choice w (choice-at k)) (choice-at-is n (omega (arith, s .few)) k h)
 

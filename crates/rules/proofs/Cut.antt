@@ -51,6 +51,9 @@ module _ (R : Rule) (n : ℕ) where
         allowed = ap (follows R []) (c .1) ∙ follows-append R [] w (c .0) ∙ both (r .allowed) (c .3);
       }
 
+  pub start-reached : (v : List ℕ) → In v (completions R n []) → Reached 0 v
+  start-reached = whole-reached n [] reached-start
+
   module _ (passes dead : List ℕ → Bool) where
     -- what a test of death needs: from dead choices nothing passes, and a whole way that does not pass is dead
     pub record Death : Type 0 where

@@ -228,13 +228,6 @@ module _ {A : Type 0} (t : A → Bool) where
   first-append (x ∷ l) m =
       elim (t x) as (λ b. cond b (some x) (first t (l ++ m)) ≡ (cond b (some x) (first t l) else first t m)) [ true ↦ refl | false ↦ first-append l m ]
 
-  -- the first that passes is the head of those that pass
-  pub first-filter : (l : List A) → first t l ≡ first (λ x. true) (filter t l)
-  unfolding first filter
-  first-filter [] = refl
-  first-filter (x ∷ l) =
-      elim (t x) as (λ b. cond b (some x) (first t l) ≡ first (λ x. true) (cond b (x ∷ filter t l) (filter t l))) [ true ↦ refl | false ↦ first-filter l ]
-
 module _ {A B : Type 0} (t : B → Bool) where
   -- the first that passes of a list made of others
   pub first-flat : (f : A → List B) (l : List A) → first t (flatMap f l) ≡ first-of (λ x. first t (f x)) l

@@ -11,7 +11,8 @@ use Rattle.records.specs.Records.{inputs}
 use Rattle.records.proofs.Frame.{framed-both, few-inputs}
 use Rattle.partial.proofs.Standing.{stands-as}
 use Rattle.matcher.proofs.Nodes.{node-bytes}
-use Rattle.matcher.proofs.Claiming.{refusal-parts, refusal-stored}
+use Rattle.matcher.proofs.Exact.{refusal-parts}
+use Rattle.matcher.proofs.Claiming.{refusal-stored}
 use Rattle.matcher.proofs.write_refusal.Statement.{statement}
 use Rattle.matcher.proofs.write_refusal.Tie as tie
 
