@@ -102,7 +102,8 @@ pub matcher-answers : (κs : Lfts 3) (a : Dens κs find-kinds.ps) (f g before af
 matcher-answers κs a f g before after answer e r s p =
     (p .returned ∙ e .0, p .buffer ∙ ap (λ (x : Answer). buffer-after x (claim-for f g) before) (e .0) ∙ e .1)
 
--- x2·x0′ or not x2, and y0·y1′ or not y0: input 0 goes to 0, 1 to 2 and 2 to 1; the other way round the bytes would be 10 12 01
+-- f is on where x2·x0′ and off where x2′, g on where y0·y1′ and off where y0′: the first wiring is x0 = y0′, x1 = y2, x2 = y1′. With j
+-- the wrong way round the bytes would be 10 12 01
 abbrev F-round : List ℕ
 F-round = 0x46 ∷ 0x4E ∷ 0x03 ∷ 0x01 ∷ 0x01 ∷ 0x04 ∷ 0x01 ∷ 0x00 ∷ 0x04 ∷ []
 
