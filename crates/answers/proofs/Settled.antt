@@ -17,6 +17,8 @@ use Rattle.answers.proofs.pack.Kinds as pack-kinds
 use Rattle.answers.proofs.pack.Reads as pack
 use Rattle.answers.proofs.put.Kinds as put-kinds
 use Rattle.answers.proofs.put.Reads as put
+use Rattle.answers.proofs.leave.Kinds as leave-kinds
+use Rattle.answers.proofs.leave.Reads as leave
 
 pub accepted-settled : Settled 0 accepted-kinds.ps accepted-kinds.r accepted.Post
 accepted-settled κs a r₁ r₂ s₁ s₂ p q = p ∙ sym q
@@ -39,3 +41,6 @@ pack-settled κs a r₁ r₂ s₁ s₂ p q = p ∙ sym q
 -- what is seen is the buffer afterwards
 pub put-settled : SettledAs 2 put-kinds.ps put-kinds.r (λ κs. List ℕ) (λ κs x s. s .0 .now) put.Post
 put-settled κs a r₁ r₂ s₁ s₂ p q = p ∙ sym q
+
+pub leave-settled : SettledAs 2 leave-kinds.ps leave-kinds.r (λ κs. ℕ × List ℕ) (λ κs x s. (x, s .0 .now)) leave.Post
+leave-settled κs a r₁ r₂ s₁ s₂ p q i = ((p .returned ∙ sym (q .returned)) i, (p .slice ∙ sym (q .slice)) i)

@@ -6,13 +6,13 @@ use mathlib.Core.List.{List, [], _∷_, _++_}
 use native.Mathlib.Nat.{add-zero, zero-add, add-suc, suc-add}
 use native.Mathlib.Numerals.{add-one}
 use native.Mathlib.Omega.{arith}
-use borrow.Author.Tests.{lt-ltb, le-ltb, ltb-false, eqb-false}
+use borrow.Author.Tests.{lt-ltb, le-ltb, ltb-false, eqb-false, le-leb, lt-leb}
 use lib.Dec.{ltb}
 use lib.ListN.{length, getD, take, drop, set}
 use lib.Seq.{sets, sets-eq, drop-cons, take-append-seam, drop-append-seam}
 use Rattle.answers.specs.declared.Answer.{Answer}
 use Rattle.answers.proofs.Faults.{next-chosen, this-chosen}
-use Rattle.answers.specs.Answers.{accepted, refused, fits, buffer-after, Delivered}
+use Rattle.answers.specs.Answers.{accepted, refused, fits, buffer-after, Delivered, stored-if-room}
 
 -- one byte of the run is stored, and the others come after it
 pub store-next : (out bytes : List ℕ) (at i : ℕ) → i < length bytes
@@ -47,6 +47,16 @@ sets-stands bytes before h =
       front = ap (take (length bytes)) e ∙ take-append-seam bytes (drop (length bytes) before);
       behind = ap (drop (length bytes)) e ∙ drop-append-seam bytes (drop (length bytes) before);
     }
+
+-- ---- a lent slice that is filled if it has room
+
+pub stored-with-room : (numbers before : List ℕ) → length numbers ≤ length before → stored-if-room numbers before ≡ sets before 0 numbers
+unfolding stored-if-room
+stored-with-room numbers before h = simp (le-leb _ _ h)
+
+pub stored-without-room : (numbers before : List ℕ) → length before < length numbers → stored-if-room numbers before ≡ before
+unfolding stored-if-room
+stored-without-room numbers before h = simp (lt-leb _ _ h)
 
 -- ---- room for the answer
 

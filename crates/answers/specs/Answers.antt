@@ -71,6 +71,15 @@ pub record Delivered (answer : Answer) (bytes before after : List ℕ) (r : Answ
   pub returned : r ≡ answer
   pub buffer : after ≡ buffer-after answer bytes before
 
+-- a lent slice afterwards: the numbers at its start if they fit, else unchanged
+unfoldable pub stored-if-room : List ℕ → List ℕ → List ℕ
+stored-if-room numbers before = cond (leb (length numbers) (length before)) (sets before 0 numbers) before
+
+-- what a call leaves that returns a number and fills a lent slice: the number, and the slice afterwards
+pub record Leaves (number : ℕ) (stored before after : List ℕ) (r : ℕ) : Type 0 where
+  pub returned : r ≡ number
+  pub slice : after ≡ stored-if-room stored before
+
 -- one number for a host: code + 256·kind + 65,536·record + 16,777,216·place
 unfoldable pub packed : Answer → ℕ
 packed a = a .code + 256 * a .kind + 65536 * a .«record» + 16777216 * a .place

@@ -3,7 +3,7 @@ ghost use mathlib.Core.Path.{_≡_};
 ghost use Prim.Native.Nat.{_+_, _^_, _≤_, _<_};
 ghost use lib.ListN.{length};
 ghost use lib.Seq.{sets};
-ghost use Rattle.answers.specs.Answers.{_then_, byte-fault, length-fault, packed};
+ghost use Rattle.answers.specs.Answers.{_then_, byte-fault, length-fault, Leaves, packed};
 ghost use Rattle.answers.specs.Answers.{accepted as accepting, refused as refusing};
 
 // What reader, summary, matcher, checker and writer answer.
@@ -101,6 +101,18 @@ pub fn put(out: &mut [u8], at: usize, bytes: &[u8])
         out[at + i] = bytes[i];
         i += 1;
     }
+}
+
+// Stores the bytes at the buffer's start, if they fit, and tells how many they are.
+pub fn leave(out: &mut [u8], bytes: &[u8]) -> usize
+    ensures { λ r. ⌜ Leaves (length (now (bytes .entry))) (now (bytes .entry)) (now (out .entry)) (now (out .exit)) r ⌝ }
+{
+    let len = bytes.len();
+    if out.len() < len {
+        return len;
+    }
+    put(out, 0, bytes);
+    len
 }
 
 // One number for a host.

@@ -13,10 +13,6 @@ use Rattle.probe.proofs.probe_fault.Kinds as probe-fault-kinds
 use Rattle.probe.proofs.probe_fault.Reads as probe-fault
 use Rattle.probe.proofs.probe_dead.Kinds as probe-dead-kinds
 use Rattle.probe.proofs.probe_dead.Reads as probe-dead
-use Rattle.probe.proofs.probe_check.Kinds as probe-check-kinds
-use Rattle.probe.proofs.probe_check.Reads as probe-check
-use Rattle.probe.proofs.probe_match.Kinds as probe-match-kinds
-use Rattle.probe.proofs.probe_match.Reads as probe-match
 
 -- the number, and the lent slice afterwards
 pub probe-read-settled : SettledAs 2 probe-read-kinds.ps probe-read-kinds.r (λ κs. ℕ × List ℕ) (λ κs x s. (x, s .1 .0 .now)) probe-read.Post
@@ -26,16 +22,10 @@ pub probe-summary-settled : SettledAs 2 probe-summary-kinds.ps probe-summary-kin
 probe-summary-settled κs a r₁ r₂ s₁ s₂ p q i = ((p .returned ∙ sym (q .returned)) i, (p .slice ∙ sym (q .slice)) i)
 
 pub probe-write-settled : SettledAs 3 probe-write-kinds.ps probe-write-kinds.r (λ κs. ℕ × List ℕ) (λ κs x s. (x, s .1 .1 .1 .0 .now)) probe-write.Post
-probe-write-settled κs a r₁ r₂ s₁ s₂ p q i = ((p .returned ∙ sym (q .returned)) i, (p .buffer ∙ sym (q .buffer)) i)
+probe-write-settled κs a r₁ r₂ s₁ s₂ p q i = ((p .0 ∙ sym (q .0)) i, (p .1 ∙ sym (q .1)) i)
 
 pub probe-fault-settled : SettledAs 2 probe-fault-kinds.ps probe-fault-kinds.r (λ κs. ℕ × List ℕ) (λ κs x s. (x, s .1 .1 .0 .now)) probe-fault.Post
 probe-fault-settled κs a r₁ r₂ s₁ s₂ p q i = ((p .returned ∙ sym (q .returned)) i, (p .slice ∙ sym (q .slice)) i)
 
 pub probe-dead-settled : Settled 3 probe-dead-kinds.ps probe-dead-kinds.r probe-dead.Post
 probe-dead-settled κs a r₁ r₂ s₁ s₂ p q = p ∙ sym q
-
-pub probe-check-settled : Settled 3 probe-check-kinds.ps probe-check-kinds.r probe-check.Post
-probe-check-settled κs a r₁ r₂ s₁ s₂ p q = p ∙ sym q
-
-pub probe-match-settled : SettledAs 3 probe-match-kinds.ps probe-match-kinds.r (λ κs. ℕ × List ℕ) (λ κs x s. (x, s .1 .1 .0 .now)) probe-match.Post
-probe-match-settled κs a r₁ r₂ s₁ s₂ p q i = ((p .returned ∙ sym (q .returned)) i, (p .buffer ∙ sym (q .buffer)) i)

@@ -1,13 +1,12 @@
-// Exported functions for tests alone: each hands a public call's answer over as one number.
+// Exported functions for tests alone: what the host's two do not show. Each hands a call's answer over as one number.
 ghost use mathlib.Core.Path.{_≡_};
 ghost use mathlib.Core.List.{[], _∷_};
 ghost use lib.ListN.{length};
+ghost use Rattle.answers.specs.Answers.{buffer-after, stored-if-room, Leaves};
 ghost use Rattle.records.specs.Records.{reading, summing, bytes-at-fault};
 ghost use Rattle.writer.specs.Writing.{writing, record-bytes};
 ghost use Rattle.partial.specs.Partial.{Few};
-ghost use Rattle.checker.specs.Checking.{checking};
-ghost use Rattle.matcher.specs.Matching.{matching, claim-for};
-ghost use Rattle.probe.specs.Probe.{packed-mod, Hands, stored-if-room, counts-of, figures-of, Leaves, pair-number, dead-number};
+ghost use Rattle.probe.specs.Probe.{packed-mod, counts-of, figures-of, pair-number, dead-number};
 use answers::Answer;
 use partial::Found;
 
@@ -61,7 +60,8 @@ pub extern "C" fn probe_summary(record: &[u8], numbers: &mut [u64]) -> u64
 
 #[no_mangle]
 pub extern "C" fn probe_write(n: u8, on: &[u8], off: &[u8], out: &mut [u8]) -> u64
-    ensures { λ r. ⌜ Hands (writing n (now (on .entry)) (now (off .entry)) (length (now (out .entry)))) (record-bytes n (now (on .entry)) (now (off .entry))) (now (out .entry)) (now (out .exit)) r ⌝ }
+    ensures { λ r. ⌜ r ≡ packed-mod (writing n (now (on .entry)) (now (off .entry)) (length (now (out .entry)))) ⌝ }
+    ensures { λ r. ⌜ now (out .exit) ≡ buffer-after (writing n (now (on .entry)) (now (off .entry)) (length (now (out .entry)))) (record-bytes n (now (on .entry)) (now (off .entry))) (now (out .entry)) ⌝ }
 {
     packed_mod(writer::write(n, on, off, out))
 }
@@ -71,13 +71,7 @@ pub extern "C" fn probe_write(n: u8, on: &[u8], off: &[u8], out: &mut [u8]) -> u
 pub extern "C" fn probe_fault<'a>(f: &'a [u8], g: &'a [u8], out: &mut [u8]) -> u64
     ensures { λ r. ⌜ Leaves (length (bytes-at-fault (now (f .entry)) (now (g .entry)))) (bytes-at-fault (now (f .entry)) (now (g .entry))) (now (out .entry)) (now (out .exit)) r ⌝ }
 {
-    let part = records::at_fault(f, g);
-    let len = part.len();
-    if out.len() < len {
-        return len as u64;
-    }
-    answers::put(out, 0, part);
-    len as u64
+    answers::leave(out, records::at_fault(f, g)) as u64
 }
 
 // A pair as a number.
@@ -105,18 +99,4 @@ pub extern "C" fn probe_dead(f: &[u8], g: &[u8], choices: &[u8], q: u8) -> u64
         return 0;
     }
     pair_number(read.wiring.first_dead(f, g, q))
-}
-
-#[no_mangle]
-pub extern "C" fn probe_check(f: &[u8], g: &[u8], claim: &[u8]) -> u64
-    ensures { λ r. ⌜ r ≡ packed-mod (checking (now (f .entry)) (now (g .entry)) (now (claim .entry))) ⌝ }
-{
-    packed_mod(checker::check(f, g, claim))
-}
-
-#[no_mangle]
-pub extern "C" fn probe_match(f: &[u8], g: &[u8], out: &mut [u8]) -> u64
-    ensures { λ r. ⌜ Hands (matching (now (f .entry)) (now (g .entry)) (length (now (out .entry)))) (claim-for (now (f .entry)) (now (g .entry))) (now (out .entry)) (now (out .exit)) r ⌝ }
-{
-    packed_mod(matcher::find(f, g, out))
 }

@@ -7,6 +7,8 @@ use Rattle.records.proofs.cubes_fault.Kinds as cubes-fault-kinds
 use Rattle.records.proofs.cubes_fault.Reads as cubes-fault
 use Rattle.records.proofs.clash_fault.Kinds as clash-fault-kinds
 use Rattle.records.proofs.clash_fault.Reads as clash-fault
+use Rattle.records.proofs.record_end.Kinds as record-end-kinds
+use Rattle.records.proofs.record_end.Reads as record-end
 use Rattle.records.proofs.record_fault.Kinds as record-fault-kinds
 use Rattle.records.proofs.record_fault.Reads as record-fault
 use Rattle.records.proofs.read.Kinds as read-kinds
@@ -27,6 +29,9 @@ cubes-fault-settled κs a r₁ r₂ s₁ s₂ p q = p ∙ sym q
 
 pub clash-fault-settled : Settled 2 clash-fault-kinds.ps clash-fault-kinds.r clash-fault.Post
 clash-fault-settled κs a r₁ r₂ s₁ s₂ p q = p ∙ sym q
+
+pub record-end-settled : Settled 1 record-end-kinds.ps record-end-kinds.r record-end.Post
+record-end-settled κs a r₁ r₂ s₁ s₂ p q = p ∙ sym q
 
 pub record-fault-settled : Settled 1 record-fault-kinds.ps record-fault-kinds.r record-fault.Post
 record-fault-settled κs a r₁ r₂ s₁ s₂ p q = p ∙ sym q

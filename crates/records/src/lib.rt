@@ -77,6 +77,14 @@ pub fn clash_fault(on: &[u8], from: usize, off: &[u8]) -> Fault
     Fault { code: 0, place: 0 }
 }
 
+// Where a record ends, by its header.
+pub fn record_end(s: &[u8]) -> usize
+    requires { ⌜ 5 ≤ length (now s) ⌝ }
+    ensures { λ r. ⌜ r ≡ record-end (now (s .entry)) ⌝ }
+{
+    CUBES + 2 * (s[3] as usize + s[4] as usize)
+}
+
 // The first fault of the header: its bytes one by one, then the length.
 fn header_fault(s: &[u8]) -> Fault
     ensures { λ r. ⌜ r ≡ header-fault (now (s .entry)) ⌝ }
@@ -94,7 +102,7 @@ fn header_fault(s: &[u8]) -> Fault
     if counts.code != 0 {
         return counts;
     }
-    answers::length_fault(s.len(), CUBES + 2 * (s[3] as usize + s[4] as usize))
+    answers::length_fault(s.len(), record_end(s))
 }
 
 // The on list of a record, as a part of it.

@@ -1,8 +1,9 @@
 -- The numbers are stored and the answer is packed, as the call below says.
 use mathlib.Core.Path.{_∙_, ap}
 use borrow.Author.Needs.{needs}
+use Rattle.answers.specs.Answers.{stored-if-room}
 use Rattle.records.specs.declared.Figures.{Figures}
-use Rattle.probe.specs.Probe.{packed-mod, stored-if-room, figures-of}
+use Rattle.probe.specs.Probe.{packed-mod, figures-of}
 use Rattle.probe.proofs.probe_summary.Statement.{statement}
 use Rattle.probe.proofs.probe_summary.Tie as tie
 

@@ -8,7 +8,7 @@ use Rattle.probe.proofs.probe_write.Tie as tie
 returns : tie.Need-returns
 returns c =
     let e = c .before .before .before .write .ensures in
-    record { returned = c .packed-mod .ensures ∙ ap packed-mod (e .returned); buffer = e .buffer }
+    (c .packed-mod .ensures ∙ ap packed-mod (e .returned), e .buffer)
 
 pub probe-write-spec : {M : Type 1} → statement M
 probe-write-spec = tie.close (tie.spec (λ c κs. search needs) (λ c κs. search needs) (λ c. search needs) returns)

@@ -3,7 +3,7 @@ use mathlib.Core.Path.{sym}
 use mathlib.Core.List.{[], _∷_}
 use native.Mathlib.Omega.{arith}
 use lib.ListN.{length-set}
-use Rattle.probe.proofs.Laws.{stored-with-room, stored-without-room}
+use Rattle.answers.proofs.Stores.{stored-with-room, stored-without-room}
 use Rattle.probe.proofs.store_three.Statement.{statement}
 use Rattle.probe.proofs.store_three.Tie as tie
 

@@ -1,5 +1,5 @@
 -- The five bytes one after the other, and then the length.
-use mathlib.Core.Path.{_≡_, _∙_, sym}
+use mathlib.Core.Path.{_≡_, _∙_, sym, ap}
 use borrow.Author.Needs.{needs}
 use native.Mathlib.Omega.{arith}
 use Rattle.answers.specs.Answers.{length-fault}
@@ -27,8 +27,10 @@ returns c =
 returns-2 : tie.Need-returns-2
 unfolding header-fault
 returns-2 c =
-    let e = bytes (c .before .before .before .before .before) in
-    c .length-fault .ensures ∙ sym (then-next _ _ (sound-as e (c .before .before .before .if1 .left)))
+    let tested = c .before .before in
+    c .length-fault .ensures
+    ∙ ap (length-fault _) (c .before .record-end .ensures)
+    ∙ sym (then-next _ _ (sound-as (bytes (tested .before .before)) (tested .if1 .left)))
 
 pub header-fault-spec : {M : Type 1} → statement M
 header-fault-spec =
@@ -40,12 +42,6 @@ header-fault-spec =
     (λ c κs. search needs)
     (λ c κs. search needs)
     returns
-    (λ c. let h = header (c .before) in omega arith)
-    (λ c. let h = header (c .before) in omega arith)
-    (λ c. let h = header (c .before .before) in omega arith)
-    (λ c. let h = header (c .before .before) in omega arith)
-    (λ c. let h = header (c .before .before) in omega arith)
-    (λ c. let h = header (c .before .before) in omega arith)
-    (λ c. let h = header (c .before .before) in omega arith)
+    (λ c κs. let h = header c in omega arith)
     (λ c κs. search needs)
     returns-2)

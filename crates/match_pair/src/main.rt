@@ -1,0 +1,26 @@
+// The match program: f and g from standard input, the answer and the claim to standard output. What it prints is made by
+// `lines::match_lines`; here it is only read and written.
+ghost use mathlib.Core.Path.{_≡_};
+ghost use lib.ListN.{length};
+
+// Room for the input: two records never take more than 2,050 bytes, and what follows them is ignored.
+fn two_records() -> [u8; 2050]
+    ensures { λ r. ⌜ 2050 ≡ length r ⌝ }
+{
+    [0; 2050]
+}
+
+// Room for the text, which is never longer.
+fn two_lines() -> [u8; 12321]
+    ensures { λ r. ⌜ 12321 ≡ length r ⌝ }
+{
+    [0; 12321]
+}
+
+fn main() {
+    let mut input = two_records();
+    let got = io::read_full(0, &mut input);
+    let mut text = two_lines();
+    let len = lines::match_lines(&input[..got], &mut text);
+    io::write_all(1, &text[..len]);
+}
