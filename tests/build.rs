@@ -6,7 +6,7 @@
 use std::env;
 use std::path::PathBuf;
 
-const ARCHIVES: [&str; 1] = ["probe"];
+const ARCHIVES: [&str; 2] = ["host", "probe"];
 
 fn main() {
     let package = PathBuf::from(env::var_os("CARGO_MANIFEST_DIR").expect("set by cargo"));

@@ -1,10 +1,10 @@
 //! How long the calls take, beside the same work in plain Rust.
 //!
 //! Run by `cargo run --release --offline`; with `-- --smoke` it takes small inputs
-//! once and only compares answers. The archive is looked for in
+//! once and only compares answers. The archives are looked for in
 //! ../target/staticlib, or where ZAP_ARCHIVES says.
 //!
-//! - `zap_tests::calls`: the functions under test, taken from the static archive;
+//! - `zap_tests::calls`: the functions under test, taken from the static archives;
 //! - `plain`: the same in plain Rust, as one would write it without proofs;
 //! - `inputs`: functions and claims, made with fixed seeds;
 //! - `table`: both sides run in turn, and the tables of the best times.

@@ -1,8 +1,9 @@
 //! The functions under test.
 //!
-//! The archive exports them for C: a slice is a pointer, then a length. No call
-//! asks anything of its caller, so the safe functions here only take the slices
-//! apart. Nothing checks these declarations against the archive.
+//! Two archives export them for C: `host` those that an engine calls, `probe` those
+//! that are for tests alone. A slice is a pointer, then a length. No call asks
+//! anything of its caller, so the safe functions here only take the slices apart.
+//! Nothing checks these declarations against the archives.
 
 mod foreign {
     extern "C" {
@@ -49,7 +50,7 @@ mod foreign {
             q: u8,
         ) -> u64;
 
-        pub fn probe_check(
+        pub fn zap_check(
             f: *const u8,
             f_len: usize,
             g: *const u8,
@@ -58,7 +59,7 @@ mod foreign {
             claim_len: usize,
         ) -> u64;
 
-        pub fn probe_match(
+        pub fn zap_match(
             f: *const u8,
             f_len: usize,
             g: *const u8,
@@ -129,12 +130,12 @@ pub type DeadCall = fn(&[u8], &[u8], &[u8], u8) -> u64;
 /// Checks a claim about f and g: the packed answer.
 pub fn check(f: &[u8], g: &[u8], claim: &[u8]) -> u64 {
     let len = claim.len();
-    unsafe { foreign::probe_check(f.as_ptr(), f.len(), g.as_ptr(), g.len(), claim.as_ptr(), len) }
+    unsafe { foreign::zap_check(f.as_ptr(), f.len(), g.as_ptr(), g.len(), claim.as_ptr(), len) }
 }
 
 /// Finds a match or a refusal of f and g: the packed answer, and the claim at the
 /// start of `out`.
 pub fn find_match(f: &[u8], g: &[u8], out: &mut [u8]) -> u64 {
     let len = out.len();
-    unsafe { foreign::probe_match(f.as_ptr(), f.len(), g.as_ptr(), g.len(), out.as_mut_ptr(), len) }
+    unsafe { foreign::zap_match(f.as_ptr(), f.len(), g.as_ptr(), g.len(), out.as_mut_ptr(), len) }
 }

@@ -579,3 +579,165 @@ pub const MATCHINGS: &[MatchingCase] = &[
     withholds("a bad cube in g", [CONJ, FIVE], 9, [5, 2, 7]),
     withholds("on and off at once in f", [SEVEN, CONJ], 9, [7, 1, 7]),
 ];
+
+/// What a program prints for an input.
+pub struct TextCase {
+    pub name: &'static str,
+    pub runs: &'static [Run],
+    pub text: &'static str,
+}
+
+impl TextCase {
+    pub fn input(&self) -> Vec<u8> {
+        bytes(self.runs)
+    }
+}
+
+const fn prints(name: &'static str, runs: &'static [Run], text: &'static str) -> TextCase {
+    TextCase { name, runs, text }
+}
+
+/// A record of which the mark and n are right and the counts as high as they can be:
+/// it is cut at 1,025.
+const COUNTS_255: &[u8] = &[0x46, 0x4E, 1, 0xFF, 0xFF];
+const CUBES_510: Run = (&[0], 1_020);
+
+/// 64 on cubes, and no off cube.
+const FULL: [Run; 2] = [(&[0x46, 0x4E, 1, 64, 0], 1), (&[1, 0], 64)];
+
+/// The last input of 5, and the first pattern and the last, as above: no node above
+/// depth 5 is closed. A tree takes 3 bytes at depth 5 and then, upward, 1 + 2·3 = 7,
+/// 1 + 4·7 = 29, 1 + 6·29 = 175, 1 + 8·175 = 1,401 and 1 + 10·1,401 = 14,011.
+const LAST_OF_5: Records =
+    [&[0x46, 0x4E, 5, 1, 1, 0x10, 0, 0, 0x10], &[0x46, 0x4E, 5, 2, 0, 0, 0x1F, 0x1F, 0]];
+
+/// The match program.
+pub const MATCH_TEXTS: &[TextCase] = &[
+    prints("Conj to Disj", &[(CONJ, 1), (DISJ, 1)], "0 1 0 6\n4D 54 02 01 10 11\n"),
+    prints(
+        "Conj to Odd",
+        &[(CONJ, 1), (ODD, 1)],
+        "0 2 0 29\n52 46 02 FF 01 00 01 01 00 00 01 00 00 01 00 01 \
+         FF 01 00 01 01 00 00 01 00 01 01 00 00\n",
+    ),
+    prints("Const to Wire", &[(CONST, 1), (WIRE, 1)], "0 2 0 9\n52 46 01 00 00 00 00 00 00\n"),
+    prints("Open to Wire", &[(OPEN, 1), (WIRE, 1)], "0 1 0 5\n4D 54 01 00 00\n"),
+    prints("Wire to Conj", &[(WIRE, 1), (CONJ, 1)], "9 0 2 2\n"),
+    prints("nothing", &[], "1 0 1 0\n"),
+    prints("46 4E 00", &[(&[0x46, 0x4E, 0x00], 1)], "3 0 1 2\n"),
+    prints("46 4E 08 41", &[(&[0x46, 0x4E, 0x08, 0x41], 1)], "4 0 1 3\n"),
+    // Without off cubes there is nothing to keep apart.
+    prints(
+        "a count of 64 passes",
+        &[FULL[0], FULL[1], FULL[0], FULL[1]],
+        "0 1 0 5\n4D 54 01 00 00\n",
+    ),
+    // By hand, from the cut and from the order of the tests.
+    prints("one byte", &[(&[0x46], 1)], "1 0 1 1\n"),
+    prints("four bytes are f's", &[(&[0x46, 0x4E, 1, 0], 1)], "1 0 1 4\n"),
+    prints("f cut", &[(&[0x46, 0x4E, 1, 1, 1, 1, 0, 0], 1)], "1 0 1 8\n"),
+    prints("f alone", &[(CONJ, 1)], "1 0 2 0\n"),
+    prints("f and four bytes", &[(CONJ, 1), (&[0x46, 0x4E, 2, 1], 1)], "1 0 2 4\n"),
+    prints("g cut", &[(OPEN, 1), (&[0x46, 0x4E, 1, 1, 1, 1, 0, 0], 1)], "1 0 2 8\n"),
+    prints("a cube of f from g", &[(&[0x46, 0x4E, 1, 1, 0], 1), (WIRE, 1)], "5 0 1 5\n"),
+    prints("a byte after g", &[(OPEN, 1), (WIRE, 1), (&[0], 1)], "0 1 0 5\n4D 54 01 00 00\n"),
+    prints("Odd after g", &[(OPEN, 1), (WIRE, 1), (ODD, 1)], "0 1 0 5\n4D 54 01 00 00\n"),
+    prints("f of a wrong mark", &[(&[0x47, 0x4E, 2, 0, 0], 1), (CONJ, 1)], "2 0 1 0\n"),
+    prints("g of a wrong mark", &[(CONJ, 1), (&[0x46, 0x46, 2, 0, 0], 1)], "2 0 2 1\n"),
+    prints("n is 9 in f", &[(&[0x46, 0x4E, 9, 0, 0], 1), (CONJ, 1)], "3 0 1 2\n"),
+    prints("n is 0 in g", &[(CONJ, 1), (&[0x46, 0x4E, 0, 0, 0], 1)], "3 0 2 2\n"),
+    prints("255 cubes twice in f", &[(COUNTS_255, 1), CUBES_510, (CONJ, 1)], "4 0 1 3\n"),
+    prints("255 cubes twice in g", &[(WIRE, 1), (COUNTS_255, 1), CUBES_510], "4 0 2 3\n"),
+    prints("a bad cube in g", &[(CONJ, 1), (FIVE, 1)], "5 0 2 7\n"),
+    prints("an input twice in f", &[(SIX, 1), (CONJ, 1)], "6 0 1 5\n"),
+    prints("on and off at once in f", &[(SEVEN, 1), (CONJ, 1)], "7 0 1 7\n"),
+    prints("a long refusal", &[(LAST_OF_5[0], 1), (LAST_OF_5[1], 1)], "18 0 4 28025\n"),
+];
+
+/// The check program.
+pub const CHECK_TEXTS: &[TextCase] = &[
+    prints(
+        "Conj to Disj",
+        &[(CONJ, 1), (DISJ, 1), (&[0x4D, 0x54, 2, 1, 0x10, 0x11], 1)],
+        "0 1 0 6\n",
+    ),
+    prints("Conj to Odd", &[(CONJ, 1), (ODD, 1), (CONJ_ODD_CLAIM, 1)], "0 2 0 29\n"),
+    prints(
+        "Const to Wire",
+        &[(CONST, 1), (WIRE, 1), (&[0x52, 0x46, 1], 1), (&[0], 6)],
+        "0 2 0 9\n",
+    ),
+    prints("Open to Wire", &[(OPEN, 1), (WIRE, 1), (&[0x4D, 0x54, 1, 0, 0], 1)], "0 1 0 5\n"),
+    prints(
+        "Open to Wire, inverted",
+        &[(OPEN, 1), (WIRE, 1), (&[0x4D, 0x54, 1, 0, 0x10], 1)],
+        "0 1 0 5\n",
+    ),
+    prints(
+        "Wire to Wire, inverted, q 0",
+        &[(WIRE, 2), (&[0x4D, 0x54, 1, 0, 0x10], 1)],
+        "14 0 3 0\n",
+    ),
+    prints(
+        "Wire to Wire, inverted, q 1",
+        &[(WIRE, 2), (&[0x4D, 0x54, 1, 1, 0x10], 1)],
+        "0 1 0 5\n",
+    ),
+    prints("Wire to Conj", &[(WIRE, 1), (CONJ, 1), (&[0x4D, 0x54, 1, 0, 0], 1)], "9 0 2 2\n"),
+    prints(
+        "an input of g twice",
+        &[(CONJ, 1), (DISJ, 1), (&[0x4D, 0x54, 2, 1, 0x10, 0x10], 1)],
+        "13 0 3 5\n",
+    ),
+    prints("a split cut short", &[(CONST, 1), (WIRE, 1), (&[0x52, 0x46, 1, 0xFF], 1)], "1 0 3 4\n"),
+    prints(
+        "v beyond its list",
+        &[(CONST, 1), (WIRE, 1), (&[0x52, 0x46, 1, 0, 0, 1], 1)],
+        "15 0 3 5\n",
+    ),
+    prints("nothing", &[], "1 0 1 0\n"),
+    prints("46 4E 00", &[(&[0x46, 0x4E, 0x00], 1)], "3 0 1 2\n"),
+    prints("46 4E 08 41", &[(&[0x46, 0x4E, 0x08, 0x41], 1)], "4 0 1 3\n"),
+    prints(
+        "a count of 64 passes",
+        &[FULL[0], FULL[1], FULL[0], FULL[1], (&[0x4D, 0x54, 1, 0, 0], 1)],
+        "0 1 0 5\n",
+    ),
+    // By hand, from the cut and from the order of the tests.
+    prints("four bytes are f's", &[(&[0x46, 0x4E, 1, 0], 1)], "1 0 1 4\n"),
+    prints("f and four bytes", &[(CONJ, 1), (&[0x46, 0x4E, 2, 1], 1)], "1 0 2 4\n"),
+    prints("no claim", &[(CONJ, 1), (DISJ, 1)], "1 0 3 0\n"),
+    prints("a wrong mark", &[(CONJ, 1), (DISJ, 1), (&[0x46], 1)], "2 0 3 0\n"),
+    prints("another n", &[(CONJ, 1), (DISJ, 1), (&[0x4D, 0x54, 3], 1)], "10 0 3 2\n"),
+    prints("q is 2", &[(WIRE, 2), (&[0x4D, 0x54, 1, 2, 0], 1)], "11 0 3 3\n"),
+    prints("input 1 of 1, inverted", &[(WIRE, 2), (&[0x4D, 0x54, 1, 0, 0x11], 1)], "12 0 3 4\n"),
+    prints(
+        "a split at depth n",
+        &[(CONST, 1), (WIRE, 1), (&[0x52, 0x46, 1, 0xFF, 0xFF], 1)],
+        "16 0 3 4\n",
+    ),
+    prints("a pair not dead", &[(CONJ, 1), (ODD, 1), (&[0x52, 0x46, 2, 1, 0, 1], 1)], "17 0 3 3\n"),
+    prints(
+        "a line's end after the claim",
+        &[(OPEN, 1), (WIRE, 1), (&[0x4D, 0x54, 1, 0, 0, 0x0A], 1)],
+        "8 0 3 5\n",
+    ),
+    prints("f of a wrong mark", &[(&[0x47, 0x4E, 2, 0, 0], 2), (&[0], 49_152)], "2 0 1 0\n"),
+    prints("and too long", &[(&[0x47, 0x4E, 2, 0, 0], 2), (&[0], 49_153)], "too long\n"),
+    prints("255 cubes twice", &[(COUNTS_255, 1), CUBES_510, (CONJ, 1)], "4 0 1 3\n"),
+    prints(
+        "255 cubes twice in g",
+        &[(CONJ, 1), (COUNTS_255, 1), CUBES_510, (&[0], 49_152)],
+        "4 0 2 3\n",
+    ),
+    prints(
+        "255 cubes four times",
+        &[(COUNTS_255, 1), CUBES_510, (COUNTS_255, 1), CUBES_510, (&[0], 49_152)],
+        "4 0 1 3\n",
+    ),
+    prints(
+        "255 cubes four times, and too long",
+        &[(COUNTS_255, 1), CUBES_510, (COUNTS_255, 1), CUBES_510, (&[0], 49_153)],
+        "too long\n",
+    ),
+];

@@ -1,15 +1,17 @@
 //! Tests of the calls of document 01 against an implementation of its own.
 //!
-//! Run by `cargo test --release --offline`. The archive under test is looked for
-//! in ../target/staticlib, or where ZAP_ARCHIVES says.
+//! Run by `cargo test --release --offline`. The archives under test are looked for
+//! in ../target/staticlib, or where ZAP_ARCHIVES says; the programs in ../target/bin,
+//! or where ZAP_PROGRAMS says.
 //!
 //! - `reference`: 01 in plain Rust, from its text, by patterns and brute force;
-//! - `calls`: the functions under test, taken from the static archive;
+//! - `calls`: the functions under test, taken from the static archives;
 //! - `random`: a generator with fixed seeds, and the functions made by it;
 //! - `records`: the calls on function records, held against the reference;
 //! - `wirings`: the call for dead pairs under a partial wiring, likewise;
 //! - `claims`: the checker, likewise;
 //! - `matches`: the matcher, likewise;
+//! - `programs`: the programs, run and held against the reference;
 //! - `cases`: the small functions and cases that 01 names, with its numbers;
 //! - `lent`: slices lent to a call, with known elements in them and around them;
 //! - `wrong`: what the tests of mistakes share;
@@ -20,6 +22,7 @@ pub mod cases;
 pub mod claims;
 pub mod lent;
 pub mod matches;
+pub mod programs;
 pub mod random;
 pub mod records;
 pub mod reference;

@@ -1,11 +1,11 @@
 //! How bytes and answers are printed where something differs.
 
 use crate::reference::answer::Answer;
+use crate::reference::programs;
 
-/// Capital hex with single blanks, as 01 writes bytes.
+/// The bytes as 01 writes them, and how many they are.
 pub fn hex(bytes: &[u8]) -> String {
-    let words: Vec<String> = bytes.iter().map(|byte| format!("{byte:02X}")).collect();
-    format!("[{}] ({} bytes)", words.join(" "), bytes.len())
+    format!("[{}] ({} bytes)", programs::hex(bytes), bytes.len())
 }
 
 /// The same where there may be too many bytes to show: then only those near a

@@ -80,7 +80,7 @@ where
     for run in runs {
         match run.join().expect("a sweep panicked") {
             Ok(seen) => tally.join(&seen),
-            Err(difference) => panic!("the archive differs from the reference\n{difference}"),
+            Err(difference) => panic!("not as the reference has it\n{difference}"),
         }
     }
     tally

@@ -1,4 +1,4 @@
-//! The archive's checker of claims, and what 01 says of claims.
+//! The checker of claims, as a host calls it, and what 01 says of claims.
 
 use zap_tests::calls;
 use zap_tests::cases::CLAIMS;

@@ -1,4 +1,4 @@
-//! The archive's matcher.
+//! The matcher, as a host calls it.
 
 use zap_tests::calls;
 use zap_tests::cases::{EXAMPLE_2_1, EXAMPLE_3_2, MATCHINGS, WIRINGS_OF_3_3, WIRING_OF_2_1};

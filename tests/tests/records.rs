@@ -1,4 +1,4 @@
-//! The archive's calls on function records.
+//! The calls on function records, exported for tests.
 
 use zap_tests::calls::{self, ARCHIVE};
 use zap_tests::cases::{FAULTS, READINGS, SUMMARIES, WRITINGS};

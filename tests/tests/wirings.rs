@@ -1,4 +1,4 @@
-//! The archive's call for dead pairs, and what 01 says of wirings.
+//! The call for dead pairs, exported for tests, and what 01 says of wirings.
 
 use zap_tests::calls;
 use zap_tests::cases::DEAD;

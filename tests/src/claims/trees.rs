@@ -82,6 +82,33 @@ pub fn split_everywhere(unplaced: usize, closings: [[u8; 3]; 2], claim: &mut Vec
     }
 }
 
+/// Two functions of 6 inputs, f on everywhere: every pair is dead at once, so that a
+/// tree may be split wherever one likes.
+pub const DEAD_AT_ONCE: [&[u8]; 2] =
+    [&[0x46, 0x4E, 6, 1, 0, 0, 0], &[0x46, 0x4E, 6, 1, 1, 1, 0, 0, 1]];
+
+/// A refusal of these two, of just so many bytes: an odd number from 36,775 on.
+pub fn refusal_of_length(length: usize) -> Vec<u8> {
+    // Split down to depth 4, the claim has 36,749 bytes. A split there has 13 bytes in
+    // the place of 3, one at depth 5 has 7: some of these, and the rest goes by tens.
+    let more = length - 36_749;
+    let at_5 = [0, 3, 1, 4, 2][more % 10 / 2];
+    let mut left = [(more - 4 * at_5) / 10, at_5];
+    let mut close = |partial: &Partial| {
+        let split = match partial.placed.len() {
+            0..=3 => true,
+            depth @ 4..=5 if left[depth - 4] > 0 => {
+                left[depth - 4] -= 1;
+                true
+            }
+            _ => false,
+        };
+        (!split).then_some(Pair { s: 0, u: 0, v: 0 })
+    };
+    let mut tree = || Tree::grown(&Partial::empty(6), &mut close).expect("closed at depth 6");
+    refusal_claim(6, &[tree(), tree()])
+}
+
 /// Where the closings of a refusal claim start, each with its q.
 pub fn closings(trees: &[Tree; 2]) -> Vec<(usize, bool)> {
     fn walk(tree: &Tree, q: bool, place: &mut usize, found: &mut Vec<(usize, bool)>) {
@@ -138,6 +165,8 @@ pub fn widened(random: &mut Random, two: &Two, n: usize) -> Two {
 mod tests {
     use super::*;
     use crate::reference::agreement::Tables;
+    use crate::reference::checker::check_in;
+    use crate::reference::two::two;
     use crate::reference::wiring::wirings;
 
     #[test]
@@ -154,6 +183,16 @@ mod tests {
                     assert!(!agrees, "{two:?}");
                 }
             }
+        }
+    }
+
+    #[test]
+    fn refusals_of_any_odd_length() {
+        let two = two(DEAD_AT_ONCE[0], DEAD_AT_ONCE[1]).expect("two functions");
+        for length in (36_775..36_795).chain([49_151]).filter(|length| length % 2 == 1) {
+            let claim = refusal_of_length(length);
+            assert_eq!(claim.len(), length);
+            assert!(check_in(&two, &claim).answer.is_accepted(), "{length}");
         }
     }
 

@@ -1,6 +1,6 @@
 //! Pairs of functions for the matcher.
 
-use crate::random::{constant, few, function_of, one_sided, Random};
+use crate::random::{constant, few, function_of, one_sided, with_one_list, Random};
 use crate::reference::pattern::{every_cube, Cube, Function};
 use crate::reference::two::Two;
 use crate::reference::wiring::Partial;
@@ -44,6 +44,19 @@ pub fn special(random: &mut Random, n: usize) -> Function {
         3 => one_sided(random, n, size),
         _ => function_of(random, n, few),
     }
+}
+
+/// The last input alone.
+pub fn last_input(n: usize) -> Function {
+    let last = 1 << (n - 1);
+    Function { n, on: vec![Cube { p: last, n: 0 }], off: vec![Cube { p: 0, n: last }] }
+}
+
+/// On, or else off, at the first pattern and at the last. With the last input alone
+/// nothing is dead before all is placed: the longest refusal of n inputs.
+pub fn both_ends(n: usize, on: bool) -> Function {
+    let all = ((1 << n) - 1) as u8;
+    with_one_list(n, vec![Cube { p: 0, n: all }, Cube { p: all, n: 0 }], on)
 }
 
 /// Whether the search for two functions comes to its end within so many nodes: of

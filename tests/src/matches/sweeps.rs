@@ -1,11 +1,11 @@
 //! The inputs of the comparison, sweep by sweep.
 
-use super::pairs::{ends_within, every_function, many, several, special};
+use super::pairs::{both_ends, ends_within, every_function, last_input, many, several, special};
 use super::Trial;
 use crate::cases::{EXAMPLE_2_1, EXAMPLE_3_2, NAMED};
 use crate::claims::trees::{refused_pair, widened};
 use crate::random::{any_function, any_size, few, from_points, full_function, function_of};
-use crate::random::{spoiled, with_one_list, Random};
+use crate::random::{spoiled, Random};
 use crate::records::Outcome;
 use crate::reference::dead::TRIED;
 use crate::reference::matcher::first_on_patterns;
@@ -259,11 +259,6 @@ pub fn longer_searches(trial: &mut Trial) -> Outcome {
 /// Trees in which nothing is dead for long: the last input of f alone with two cubes
 /// of g, and cubes of all literals.
 pub fn deep_trees(trial: &mut Trial) -> Outcome {
-    let last = |n: usize| Function {
-        n,
-        on: vec![Cube { p: 1 << (n - 1), n: 0 }],
-        off: vec![Cube { p: 0, n: 1 << (n - 1) }],
-    };
     // Either of two inputs; of 7 inputs the claim's places are beyond 2^16.
     for n in 2..=7 {
         let either = Function {
@@ -271,14 +266,11 @@ pub fn deep_trees(trial: &mut Trial) -> Outcome {
             on: vec![Cube { p: 1, n: 0 }, Cube { p: 2, n: 0 }],
             off: vec![Cube { p: 0, n: 3 }],
         };
-        trial.checked(&Two { f: last(n), g: either }, None)?;
+        trial.checked(&Two { f: last_input(n), g: either }, None)?;
     }
-    // The first pattern and the last: the longest claim of n inputs.
     for n in 1..=5 {
-        let all = ((1 << n) - 1) as u8;
-        let ends = vec![Cube { p: 0, n: all }, Cube { p: all, n: 0 }];
         for on in [false, true] {
-            trial.checked(&Two { f: last(n), g: with_one_list(n, ends.clone(), on) }, None)?;
+            trial.checked(&Two { f: last_input(n), g: both_ends(n, on) }, None)?;
         }
     }
     // Enough patterns that often no wiring keeps all apart.

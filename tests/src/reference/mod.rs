@@ -13,6 +13,7 @@ pub mod fault;
 pub mod matcher;
 pub mod pair;
 pub mod pattern;
+pub mod programs;
 pub mod record;
 pub mod summary;
 pub mod two;

@@ -1,0 +1,102 @@
+/*
+ * The matcher and the checker, for C and C++.
+ *
+ * `rt staticlib host` writes target/staticlib/libhost.a, which holds them.
+ *
+ * The caller keeps this: each pointer is valid for its length, and not null even
+ * where the length is 0; `out` overlaps neither f nor g. Nothing else is asked:
+ * the bytes may be anything, and bad ones are refused.
+ */
+#ifndef ZAP_H
+#define ZAP_H
+
+#include <stddef.h>
+#include <stdint.h>
+
+#ifdef __cplusplus
+extern "C" {
+#endif
+
+/*
+ * Finds the first wiring under which f and g agree, or the refusal that shows that
+ * there is none. The claim is written at the start of `out`, and nothing after it;
+ * if the call refuses, no byte of `out` changes. No claim is longer than 75,323,621
+ * bytes, and code 18 tells the length needed.
+ */
+uint64_t zap_match(const uint8_t *f, size_t f_len, const uint8_t *g, size_t g_len,
+                   uint8_t *out, size_t out_len);
+
+/*
+ * Checks a claim about f and g. A match is accepted exactly if the functions agree
+ * under its wiring, a refusal exactly if its trees follow the rules; then no wiring
+ * agrees.
+ */
+uint64_t zap_check(const uint8_t *f, size_t f_len, const uint8_t *g, size_t g_len,
+                   const uint8_t *claim, size_t claim_len);
+
+/*
+ * Either answer is one number: code + 256 kind + 65,536 record + 16,777,216 place.
+ *
+ * Accepted: code 0, record 0, and the place is the claim's length.
+ * Refused: kind 0, and record and place say where the fault is. Places count from 0.
+ */
+static inline unsigned zap_code(uint64_t answer) { return (unsigned)(answer & 255); }
+static inline unsigned zap_kind(uint64_t answer) { return (unsigned)((answer >> 8) & 255); }
+static inline unsigned zap_record(uint64_t answer) { return (unsigned)((answer >> 16) & 255); }
+static inline uint64_t zap_place(uint64_t answer) { return answer >> 24; }
+
+enum zap_kinds {
+    ZAP_REFUSED = 0,
+    ZAP_MATCH = 1,
+    ZAP_NO_MATCH = 2,
+    ZAP_ALL_ELSE = 3 /* for reader, summary and writer: never from these two calls */
+};
+
+enum zap_records {
+    ZAP_OF_NONE = 0,
+    ZAP_OF_F = 1,
+    ZAP_OF_G = 2,
+    ZAP_OF_CLAIM = 3,
+    ZAP_OF_OUT = 4
+};
+
+enum zap_codes {
+    ZAP_ACCEPTED = 0,
+
+    /* A function record; 1, 2 and 8 also a claim. */
+    ZAP_ENDS_EARLY = 1,      /* the bytes end too early: the length */
+    ZAP_WRONG_MARK = 2,      /* wrong mark: the first wrong byte */
+    ZAP_BAD_N = 3,           /* n not 1 to 8 in a function record: 2 */
+    ZAP_BAD_COUNT = 4,       /* a count above 64: 3 or 4 */
+    ZAP_BEYOND_N = 5,        /* a cube names an input at or above n: first byte of the cube */
+    ZAP_IN_BOTH_MASKS = 6,   /* a cube has an input in both masks: first byte of the cube */
+    ZAP_ON_AND_OFF = 7,      /* an on cube and an off cube of one function share a pattern:
+                                first byte of the first such on cube */
+    ZAP_BYTES_FOLLOW = 8,    /* bytes follow the end: the first of them */
+
+    /* The two functions. */
+    ZAP_N_DIFFERS = 9,       /* f and g differ in n: 2, record 2 */
+
+    /* A claim; 11 to 14 a match, 15 to 17 a refusal. */
+    ZAP_CLAIM_N = 10,        /* the claim's n is not theirs: 2 */
+    ZAP_BAD_Q = 11,          /* q is neither 0 nor 1: 3 */
+    ZAP_BAD_CHOICE = 12,     /* a wiring byte outside 0..n-1 and 16..16+n-1: that byte */
+    ZAP_USED_TWICE = 13,     /* an input of g used twice: the second such byte */
+    ZAP_NOT_AGREEING = 14,   /* the wiring does not agree: 0 */
+    ZAP_BAD_NODE = 15,       /* a node's first byte not 0, 1 or FF, or a cube index beyond its
+                                list: that byte */
+    ZAP_SPLIT_AT_N = 16,     /* a split at depth n: that byte */
+    ZAP_NOT_DEAD = 17,       /* the named pair is not dead: first byte of the node */
+
+    /* The output buffer. */
+    ZAP_BUFFER_SHORT = 18,   /* the output buffer is too short: the length needed */
+
+    /* The writer's alone: never from these two calls. */
+    ZAP_ODD_LIST = 19        /* a cube list has an odd length: that length */
+};
+
+#ifdef __cplusplus
+}
+#endif
+
+#endif
