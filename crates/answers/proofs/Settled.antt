@@ -36,7 +36,7 @@ pub length-fault-settled : Settled 0 length-fault-kinds.ps length-fault-kinds.r 
 length-fault-settled κs a r₁ r₂ s₁ s₂ p q = p ∙ sym q
 
 pub pack-settled : Settled 0 pack-kinds.ps pack-kinds.r pack.Post
-pack-settled κs a r₁ r₂ s₁ s₂ p q = p ∙ sym q
+pack-settled κs a r₁ r₂ s₁ s₂ p q = p .0 ∙ sym (q .0)
 
 -- what is seen is the buffer afterwards
 pub put-settled : SettledAs 2 put-kinds.ps put-kinds.r (λ κs. List ℕ) (λ κs x s. s .0 .now) put.Post

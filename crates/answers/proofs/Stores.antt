@@ -12,7 +12,7 @@ use lib.ListN.{length, getD, take, drop, set}
 use lib.Seq.{sets, sets-eq, drop-cons, take-append-seam, drop-append-seam}
 use Rattle.answers.specs.declared.Answer.{Answer}
 use Rattle.answers.proofs.Faults.{next-chosen, this-chosen}
-use Rattle.answers.specs.Answers.{accepted, refused, fits, buffer-after, Delivered, stored-if-room}
+use Rattle.answers.specs.Answers.{accepted, refused, fits, buffer-after, Delivered, stored-if-room, Leaves}
 
 -- one byte of the run is stored, and the others come after it
 pub store-next : (out bytes : List ℕ) (at i : ℕ) → i < length bytes
@@ -57,6 +57,11 @@ stored-with-room numbers before h = simp (le-leb _ _ h)
 pub stored-without-room : (numbers before : List ℕ) → length before < length numbers → stored-if-room numbers before ≡ before
 unfolding stored-if-room
 stored-without-room numbers before h = simp (lt-leb _ _ h)
+
+-- as a caller meets it: with room, the bytes stand at the slice's start
+pub leaves-stands : (bytes before after : List ℕ) (r : ℕ) → Leaves (length bytes) bytes before after r → length bytes ≤ length before → Stands bytes before after r
+leaves-stands bytes before after r l h =
+    subst₂ (λ (x : List ℕ) (place : ℕ). Stands bytes before x place) (sym (l .slice ∙ stored-with-room bytes before h)) (sym (l .returned)) (sets-stands bytes before h)
 
 -- ---- room for the answer
 

@@ -1,6 +1,6 @@
 -- The numbers of an answer, faults in bytes that are read one after the other, and a lent buffer after an answer.
 -- Document 01, "Numbers returned".
-use Prim.Native.Nat.{ℕ, _+_, _*_}
+use Prim.Native.Nat.{ℕ, _+_, _*_, _/_, _%_}
 use mathlib.Core.Path.{_≡_}
 use mathlib.Core.Bool.{Bool, cond, _&&_}
 use mathlib.Core.List.{List}
@@ -83,3 +83,10 @@ pub record Leaves (number : ℕ) (stored before after : List ℕ) (r : ℕ) : Ty
 -- one number for a host: code + 256·kind + 65,536·record + 16,777,216·place
 unfoldable pub packed : Answer → ℕ
 packed a = a .code + 256 * a .kind + 65536 * a .«record» + 16777216 * a .place
+
+-- the four numbers, as the host takes them out again
+pub record Tells (a : Answer) (r : ℕ) : Type 0 where
+  pub code-told : r % 256 ≡ a .code
+  pub kind-told : r / 256 % 256 ≡ a .kind
+  pub record-told : r / 65536 % 256 ≡ a .«record»
+  pub place-told : r / 16777216 ≡ a .place

@@ -3,7 +3,7 @@ ghost use mathlib.Core.Path.{_≡_};
 ghost use Prim.Native.Nat.{_+_, _^_, _≤_, _<_};
 ghost use lib.ListN.{length};
 ghost use lib.Seq.{sets};
-ghost use Rattle.answers.specs.Answers.{_then_, byte-fault, length-fault, Leaves, packed};
+ghost use Rattle.answers.specs.Answers.{_then_, byte-fault, length-fault, Leaves, packed, Tells};
 ghost use Rattle.answers.specs.Answers.{accepted as accepting, refused as refusing};
 
 // What reader, summary, matcher, checker and writer answer.
@@ -119,6 +119,7 @@ pub fn leave(out: &mut [u8], bytes: &[u8]) -> usize
 pub fn pack(answer: Answer) -> u64
     requires { ⌜ answer .place < 2 ^ 40 ⌝ }
     ensures { λ r. ⌜ r ≡ packed answer ⌝ }
+    ensures { λ r. ⌜ Tells answer r ⌝ }
 {
     let code = answer.code as u64;
     let kind = answer.kind as u64;

@@ -4,3 +4,5 @@ pub mod Refused
 pub mod Wirings
 pub mod Claims
 pub mod Matcher
+pub mod Rejected
+pub mod Programs

@@ -1,12 +1,28 @@
 -- The four numbers keep apart: each but the place is a byte.
 use mathlib.Core.Path.{refl}
+use native.Mathlib.Omega.{arith}
 use borrow.Author.Needs.{needs}
 use Rattle.answers.specs.Answers.{packed}
 use Rattle.answers.proofs.pack.Statement.{statement}
 use Rattle.answers.proofs.pack.Tie as tie
 
-pub pack-spec : {M : Type 1} → statement M
+returns : tie.Need-returns
 unfolding packed
+returns c =
+    let k = c .before .before .struct-known .given in
+    let code = k .0 .fits in
+    let kind = k .1 .0 .fits in
+    let who = k .1 .1 .0 .fits in (
+      refl,
+      record {
+        code-told = omega (arith, code, kind, who);
+        kind-told = omega (arith, code, kind, who);
+        record-told = omega (arith, code, kind, who);
+        place-told = omega (arith, code, kind, who);
+      },
+    )
+
+pub pack-spec : {M : Type 1} → statement M
 pack-spec =
     tie.close
     (tie.spec
@@ -19,4 +35,4 @@ pack-spec =
     (λ c. search needs)
     (λ c. search needs)
     (λ c. search needs)
-    (λ c. refl))
+    returns)

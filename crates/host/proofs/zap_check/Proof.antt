@@ -4,7 +4,7 @@ use mathlib.Core.Path.{ap, sym, subst, _∙_}
 use native.Mathlib.Omega.{arith}
 use borrow.Author.Needs.{needs}
 use Rattle.answers.specs.declared.Answer.{Answer}
-use Rattle.answers.specs.Answers.{packed}
+use Rattle.answers.specs.Answers.{packed, Tells}
 use Rattle.checker.proofs.Places.{checking-place}
 use Rattle.host.proofs.zap_check.Statement.{statement}
 use Rattle.host.proofs.zap_check.Tie as tie
@@ -14,5 +14,11 @@ place-fits c κs =
     let most = subst (λ (a : Answer). a .place ≤ 75323621) (sym (c .check .ensures)) (checking-place _ _ _) in
     omega (arith, most)
 
+returns : tie.Need-returns
+returns c =
+    let e = c .before .check .ensures in
+    let p = c .pack .ensures in
+    (p .0 ∙ ap packed e, subst (λ (a : Answer). Tells a (c .pack .result)) e (p .1))
+
 pub zap-check-spec : {M : Type 1} → statement M
-zap-check-spec = tie.close (tie.spec (λ c κs. search needs) place-fits (λ c. c .pack .ensures ∙ ap packed (c .before .check .ensures)))
+zap-check-spec = tie.close (tie.spec (λ c κs. search needs) place-fits returns)

@@ -6,4 +6,4 @@ use Rattle.probe.proofs.packed_mod.Tie as tie
 
 pub packed-mod-spec : {M : Type 1} → statement M
 unfolding packed-mod
-packed-mod-spec = tie.close (tie.spec (λ c κs. search needs) (λ c. c .pack .ensures))
+packed-mod-spec = tie.close (tie.spec (λ c κs. search needs) (λ c. c .pack .ensures .0))
