@@ -10,7 +10,6 @@ use denote.Ref.{at-last}
 use denote.Triple.Clauses.{AtExit}
 use lib.ListN.{getD, replicate}
 use Rattle.answers.specs.declared.Answer.{Answer}
-use Rattle.answers.specs.Answers.{refused}
 use Rattle.records.specs.declared.Figures.{Figures}
 use Rattle.demands.proofs.Table.{Conj, Disj, Const, Wire, Conj-Disj, starred-right}
 use Rattle.demands.proofs.Refused.{checker-answers, wrong-checkers-ruled-out, matcher-answers}

@@ -8,8 +8,8 @@ use native.Mathlib.Numerals.{unary-clauses}
 use native.Mathlib.Omega.{arith}
 use borrow.Author.Tests.{leb-true, leb-false, lt-ltb}
 use lib.Dec.{leb}
-use lib.ListN.{length, getD, take, drop, length-take}
-use lib.Seq.{take-all, take-nil, drop-nil, getD-take, getD-drop, take-take}
+use lib.ListN.{length, take, drop, length-take}
+use lib.Seq.{take-all, take-nil, getD-take, getD-drop, take-take}
 use Rattle.records.specs.Records.{record-end, Bytes}
 use Rattle.lines.specs.Lines.{this-record, what-follows, match-text, match-lines, check-text, check-lines}
 

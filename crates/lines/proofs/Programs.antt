@@ -1,6 +1,6 @@
 -- What the two programs print, put together from the parts of the input, the answer and what is shown of the lent buffer.
 use Prim.Native.Nat.{ℕ, _≤_, _<_}
-use mathlib.Core.Path.{_≡_, refl, sym, ap, ap₂, _∙_, subst}
+use mathlib.Core.Path.{_≡_, refl, sym, ap, ap₂, _∙_}
 use mathlib.Core.Bool.{Bool, true, false, cond}
 use mathlib.Core.List.{List, [], append-nil}
 use native.Mathlib.Omega.{arith}

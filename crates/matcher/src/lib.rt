@@ -2,7 +2,7 @@
 // The search goes by prefix and cuts off each prefix that has a dead pair. It also measures the tree, so that the length of the
 // claim is known before its first byte is written.
 ghost use mathlib.Core.Path.{_≡_};
-ghost use mathlib.Core.List.{_∷_, []};
+ghost use mathlib.Core.List.{_∷_};
 ghost use Prim.Native.Nat.{_+_, _≤_};
 ghost use lib.ListN.{length};
 ghost use lib.Seq.{sets};

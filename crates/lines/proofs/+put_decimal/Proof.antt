@@ -1,7 +1,7 @@
 -- Each call has a number ten times smaller, and adds its last digit.
 use Prim.Native.Nat.{ℕ, _/_, _<_}
 use mathlib.Core.Path.{ap, sym, _∙_}
-use mathlib.Core.List.{List, [], _∷_, _++_}
+use mathlib.Core.List.{[], _∷_, _++_}
 use native.Mathlib.Omega.{arith}
 use borrow.Author.Needs.{needs}
 use borrow.Fn.Kinds.{In}

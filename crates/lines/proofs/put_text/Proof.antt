@@ -1,8 +1,7 @@
 -- The answer's line is made first, to know its length; it is copied if there is room for both lines.
-use mathlib.Core.Path.{sym, ap, _∙_}
+use mathlib.Core.Path.{sym, _∙_}
 use native.Mathlib.Omega.{arith}
 use borrow.Author.Needs.{needs}
-use lib.ListN.{length}
 use lib.Seq.{length-take-le}
 use Rattle.answers.proofs.Stores.{stored-with-room, stored-without-room}
 use Rattle.lines.specs.Lines.{text}
