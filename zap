@@ -72,11 +72,6 @@ length() {
     echo $(($(wc -c <"$work/$1")))
 }
 
-# byte NAME PLACE: a byte in decimal.
-byte() {
-    od -An -v -tu1 -j "$2" -N 1 <"$work/$1"
-}
-
 # hex NAME PLACE COUNT: a few bytes, as the programs print them.
 hex() {
     od -An -v -tx1 -j "$2" -N "$3" <"$work/$1" | tr a-f A-F | sed 's/^ *//'
@@ -87,35 +82,50 @@ hex() {
 # The programs read the files end to end and cut each record at 5 + 2(a + b), from its bytes 3 and 4; where a file ends they
 # cannot see. So that the answer is about the files, nothing is sent after a record that is too short: it is refused for its
 # own fault, whatever would follow. One that is too long is not sent at all: what is left of it would be taken for the next
-# file, or go unseen.
+# file, or go unseen. But of one with a fault in its header the header is sent, since that fault comes before the length.
 whole() {
     length=$(length "$1")
     [ "$length" -ge 5 ] || return 1
-    end=$((5 + 2 * ($(byte "$1" 3) + $(byte "$1" 4))))
-    [ "$length" -le "$end" ] ||
+    # shellcheck disable=SC2046 # a word for each byte: 3 and 4 are the mark, 5 is n, 6 and 7 are the counts
+    set -- "$1" "$2" $(od -An -v -tu1 -N 5 <"$work/$1")
+    end=$((5 + 2 * ($6 + $7)))
+    [ "$length" -gt "$end" ] || {
+        [ "$length" -eq "$end" ]
+        return
+    }
+    if [ "$3 $4" = '70 78' ] && [ "$5" -ge 1 ] && [ "$5" -le 8 ] && [ "$6" -le 64 ] && [ "$7" -le 64 ]; then
         fail "not run: by its counts $1 ($2) ends at byte $end, but the file has $length bytes"
-    [ "$length" -eq "$end" ]
+    fi
+    dd bs=5 count=1 <"$work/$1" >"$work/header" 2>/dev/null
+    mv "$work/header" "$work/$1"
+    return 1
 }
 
 take f "$2"
 take g "$3"
 [ "$1" = match ] || take claim "$4"
 
-cat "$work/f" >"$work/input"
+sent=f
 if whole f "$2"; then
-    cat "$work/g" >>"$work/input"
+    sent='f g'
     if whole g "$3" && [ "$1" = check ]; then
-        cat "$work/claim" >>"$work/input"
+        sent='f g claim'
     fi
 fi
+for name in $sent; do
+    cat "$work/$name"
+done >"$work/input"
 
 programs=${ZAP_PROGRAMS-}
 if [ -z "$programs" ]; then
     here=$(dirname "$(readlink -f "$0")")
     programs=$here/target/bin
     if ! [ -x "$programs/match_pair" ] || ! [ -x "$programs/check_claim" ]; then
-        echo 'zap: the programs are proved and built first, this once' >&2
-        (cd "$here" && rt check match_pair check_claim) >&2 || fail 'the programs could not be built'
+        echo 'zap: the programs are proved and built first, this once; it takes some minutes' >&2
+        if ! (cd "$here" && rt check match_pair check_claim) >"$work/built" 2>&1; then
+            cat "$work/built" >&2
+            fail 'the programs could not be built'
+        fi
     fi
 fi
 

@@ -506,6 +506,40 @@ fn a_long_record_is_not_run() {
     assert_eq!(folder.zap("check wire long rest"), long("g"));
 }
 
+/// A fault in the header comes before the length, however much follows.
+#[test]
+fn a_long_record_with_a_wrong_header() {
+    let folder = Folder::new("header");
+    folder.write("wire", WIRE);
+    let cases = [
+        ("47 4E 01 00 00 00", "2", 0, "wrong mark, byte 0 is hex 47"),
+        ("46 4F 01 00 00 00", "2", 1, "wrong mark, byte 1 is hex 4F"),
+        ("46 4E 09 00 00 00", "3", 2, "n is not 1 to 8, byte 2 is hex 09"),
+        ("46 4E 00 00 00 00", "3", 2, "n is not 1 to 8, byte 2 is hex 00"),
+    ];
+    for (start, code, place, fault) in cases {
+        let answer = |record, whose| {
+            let out = format!("{code} 0 {record} {place}\nrefused: {whose} (long): {fault}\n");
+            Ran::answer(&out, 1)
+        };
+        for more in [0, 60_000] {
+            folder.write("long", format!("{start} {}", "00 ".repeat(more)));
+            assert_eq!(folder.zap("match long wire"), answer(1, "f"));
+            assert_eq!(folder.zap("match wire long"), answer(2, "g"));
+            assert_eq!(folder.zap("check long wire wire"), answer(1, "f"));
+            assert_eq!(folder.zap("check wire long wire"), answer(2, "g"));
+        }
+    }
+    // 65 cubes end at 135, and here are 136 bytes.
+    for (counts, place, value) in [("41 00", 3, "41"), ("00 41", 4, "41")] {
+        folder.write("long", format!("46 4E 01 {counts} {}", "00 ".repeat(131)));
+        let out = format!(
+            "4 0 1 {place}\nrefused: f (long): a count is above 64, byte {place} is hex {value}\n"
+        );
+        assert_eq!(folder.zap("match long wire"), Ran::answer(&out, 1));
+    }
+}
+
 #[test]
 fn files_that_cannot_be_read() {
     let folder = Folder::new("unread");
@@ -588,7 +622,7 @@ fn built_on_first_use() {
     let programs = programs().display().to_string();
     folder.program(
         "tools/rt",
-        &format!("echo \"rt $*\"\nmkdir -p target/bin && cp '{programs}'/* target/bin"),
+        &format!("echo \"rt $*\" >asked\nmkdir -p target/bin && cp '{programs}'/* target/bin"),
     );
     let path = env::var_os("PATH").expect("a path");
     let tools = iter::once(folder.0.join("tools")).chain(env::split_paths(&path));
@@ -598,14 +632,14 @@ fn built_on_first_use() {
         command.args(["link", "match", "wire", "wire"]).current_dir(&folder.0);
         Ran::of(command.env("PATH", &path).env_remove("ZAP_PROGRAMS"))
     };
-    let first = "zap: the programs are proved and built first, this once\n\
-        rt check match_pair check_claim\n";
+    let first = "zap: the programs are proved and built first, this once; it takes some minutes\n";
     assert_eq!(ran(), Ran { err: first.to_string(), ..Ran::answer(STRAIGHT, 0) });
+    let asked = fs::read_to_string(folder.0.join("top/asked")).expect("kept");
+    assert_eq!(asked, "rt check match_pair check_claim\n");
     assert_eq!(ran(), Ran::answer(STRAIGHT, 0));
 
     fs::remove_file(folder.0.join("top/target/bin/check_claim")).expect("built");
     folder.program("tools/rt", "echo refused\nexit 1");
-    let refused = "zap: the programs are proved and built first, this once\nrefused\n\
-        zap: the programs could not be built\n";
-    assert_eq!(ran(), Ran { out: String::new(), err: refused.to_string(), status: 2 });
+    let refused = format!("{first}refused\nzap: the programs could not be built\n");
+    assert_eq!(ran(), Ran { out: String::new(), err: refused, status: 2 });
 }

@@ -1,8 +1,9 @@
 -- Numbers and bytes as text: the digits one by one, how long they get, and a line word by word.
-use Prim.Native.Nat.{ℕ, zero, suc, _+_, _*_, _/_, _%_, _^_, _≤_, _<_}
+use Prim.Native.Nat.{ℕ, zero, suc, _+_, _*_, _-_, _/_, _%_, _^_, _≤_, _<_}
 use mathlib.Core.Path.{_≡_, refl, sym, ap, ap₂, _∙_, subst}
 use mathlib.Core.Bool.{Bool, true, false, cond}
 use mathlib.Core.List.{List, [], _∷_, _++_, map}
+use native.Mathlib.Nat.{le-refl}
 use native.Mathlib.Numerals.{add-one}
 use native.Mathlib.Omega.{arith}
 use borrow.Author.Tests.{lt-ltb, le-ltb, ltb-true, ltb-false}
@@ -57,6 +58,37 @@ decimal-most (suc k) x h = go (ltb x 10) refl (decimal-most k (x / 10) (omega (a
     go : (t : Bool) → ltb x 10 ≡ t → length (decimal (x / 10)) ≤ suc k → length (decimal x) ≤ suc (suc k)
     go true e most = subst (λ (l : List ℕ). length l ≤ suc (suc k)) (sym (decimal-short x (ltb-true x 10 e))) (omega arith)
     go false e most = omega (arith, most, long-length x (ltb-false x 10 e))
+
+-- the digits, read from the left, give the number back
+pub read-decimal : ℕ → List ℕ → ℕ
+read-decimal so-far [] = so-far
+read-decimal so-far (d ∷ ds) = read-decimal (10 * so-far + (d - 48)) ds
+
+last-read : (so-far : ℕ) (ds : List ℕ) (d : ℕ) → read-decimal so-far (ds ++ (d ∷ [])) ≡ 10 * read-decimal so-far ds + (d - 48)
+unfolding read-decimal
+last-read so-far [] d = refl
+last-read so-far (c ∷ ds) d = last-read (10 * so-far + (c - 48)) ds d
+
+digit-read : (d : ℕ) → d < 10 → digit d - 48 ≡ d
+digit-read d h = simp (lt-ltb d 10 h) (omega arith)
+
+one-read : (d : ℕ) → d < 10 → read-decimal 0 (digit d ∷ []) ≡ d
+unfolding read-decimal
+one-read d h = omega (arith, digit-read d h)
+
+reads-within : (k x : ℕ) → x ≤ k → read-decimal 0 (decimal x) ≡ x
+reads-within zero x h = ap (read-decimal 0) (decimal-short x (omega (arith, h))) ∙ one-read x (omega (arith, h))
+reads-within (suc k) x h = go (ltb x 10) refl (λ big. reads-within k (x / 10) (omega (arith, big, h)))
+  where
+    go : (t : Bool) → ltb x 10 ≡ t → (10 ≤ x → read-decimal 0 (decimal (x / 10)) ≡ x / 10) → read-decimal 0 (decimal x) ≡ x
+    go true e again = let small = ltb-true x 10 e in ap (read-decimal 0) (decimal-short x small) ∙ one-read x small
+    go false e again =
+        let big = ltb-false x 10 e in
+        let one = digit-read (x % 10) (omega arith) in
+        ap (read-decimal 0) (decimal-long x big) ∙ last-read 0 (decimal (x / 10)) (digit (x % 10)) ∙ omega (arith, again big, one)
+
+pub decimal-reads : (x : ℕ) → read-decimal 0 (decimal x) ≡ x
+decimal-reads x = reads-within x x (le-refl x)
 
 -- the numbers of an answer: bytes, and a place of 64 bits
 pub record Digits (a : Answer) : Type 0 where
