@@ -37,8 +37,8 @@ pub +put-decimal-spec : {M : Type 1} → statement M
     reads.Post
     (λ c. search needs)
     (λ c κs. search needs)
-    (λ c. let start = c .before .before .before in omega (arith, start .pre .1, ap length (decimal-short (start .args .x) (c .before .if1 .taken))))
-    (λ c. let start = c .before .before .before in omega (arith, start .pre .1, ap length (decimal-short (start .args .x) (c .before .if1 .taken))))
+    (λ c. omega (arith, ap length (decimal-short (c .before .before .before .args .x) (c .before .if1 .taken))))
+    (λ c. omega (arith, ap length (decimal-short (c .before .before .before .args .x) (c .before .if1 .taken))))
     (λ c. search needs)
     (λ c.
     let a = c .before .before .before .args in
@@ -47,20 +47,16 @@ pub +put-decimal-spec : {M : Type 1} → statement M
       ap (λ (d : ℕ). sets (a .out .now) (a .start) (d ∷ [])) (c .digit .ensures) ∙ ap (sets (a .out .now) (a .start)) (sym one),
     ))
     (λ c κs.
-    let start = c .before .before .before in
-    let big = c .before .if1 .left in
-    (omega (arith, start .pre .0, big), omega (arith, start .pre .1, long-length (start .args .x) big)))
+    let long = long-length (c .before .before .before .args .x) (c .before .if1 .left) in
+    (omega arith, omega arith))
     (λ c. search needs)
     (λ c κs. search needs)
     (λ c.
-    let put = c .before .before .before in
-    let start = put .before .before .before .before in
-    let long = long-length (start .args .x) (put .before .before .if1 .left) in
-    omega (arith, start .pre .1, long, put .put-decimal .ensures .0))
+    let long = long-length (c .before .before .before .before .before .before .before .args .x) (c .before .before .before .before .before .if1 .left) in
+    omega arith)
     (λ c.
-    let put = c .before .before .before in
-    let start = put .before .before .before .before in
-    omega (arith, start .pre .1, long-length (start .args .x) (put .before .before .if1 .left), put .put-decimal .ensures .0))
+    let long = long-length (c .before .before .before .before .before .before .before .args .x) (c .before .before .before .before .before .if1 .left) in
+    omega arith)
     (λ c. search needs)
     (λ c.
     let put = c .before .before .before in

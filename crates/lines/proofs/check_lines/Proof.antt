@@ -16,7 +16,7 @@ returns c =
     let tested = left .before .before .before in
     let claim = tested .before in
     let a = claim .before .before .before .before .before .before .args in (
-      omega (arith, left .leave .ensures .returned),
+      omega arith,
       subst (λ (t : List ℕ). Leaves (length t) t (a .out .now) (left .leave .last .0) (left .leave .result))
           (check-refused (a .input .now) _ _ _ _ (claim .before .before .before .this-record .ensures) (claim .before .before .what-follows .ensures) (claim .before .this-record2 .ensures) (claim .what-follows2 .ensures) (tested .if1 .taken))
           (left .leave .ensures),

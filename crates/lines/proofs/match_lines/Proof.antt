@@ -19,7 +19,7 @@ returns c =
     let lent = found .before .before in
     let first = lent .before .before .before in
     let a = first .before .before .before .args in (
-      omega (arith, put .put-text .ensures .0, length-take (shown .shown .result) (found .find .last .1 .1 .0)),
+      omega (arith, length-take (shown .shown .result) (found .find .last .1 .1 .0)),
       subst (λ (t : List ℕ). Leaves (length t) t (a .out .now) (put .put-text .last .1 .1 .0) (put .put-text .result))
           (match-printed _ _ _ _ _ (lent .lent .ensures) (found .find .ensures) _ (shown .shown .ensures) (a .input .now) _ (first .this-record .ensures) (lent .before .before .what-follows .ensures) (lent .before .this-record2 .ensures))
           (put .put-text .ensures .1),

@@ -10,38 +10,6 @@ digits c =
     let k = c .struct-known .given in
     digits-most (c .before .before .args .answer) (k .0 .fits) (k .1 .0 .fits) (k .1 .1 .0 .fits) (k .1 .1 .1 .0 .fits)
 
-second-room : tie.Need-put-number-requires-2
-second-room c κs =
-    let first = c .before .before .before .before in
-    let known = first .before .before in
-    let e = first .put-number .ensures in
-    let d = digits known in
-    omega (arith, known .before .before .pre, d .code-digits, d .kind-digits, e .0)
-
-third-room : tie.Need-put-number-requires-3
-third-room c κs =
-    let second = c .before .before .before .before in
-    let first = second .before .before .before .before .before in
-    let known = first .before .before in
-    let e₁ = first .put-number .ensures in
-    let e₂ = second .put-number2 .ensures in
-    let d = digits known in
-    omega
-    (arith, known .before .before .pre, d .code-digits, d .kind-digits, d .record-digits, e₁ .0, e₂ .0)
-
-fourth-room : tie.Need-put-number-requires-4
-fourth-room c κs =
-    let third = c .before .before .before in
-    let second = third .before .before .before .before .before in
-    let first = second .before .before .before .before .before in
-    let known = first .before .before in
-    let e₁ = first .put-number .ensures in
-    let e₂ = second .put-number2 .ensures in
-    let e₃ = third .put-number3 .ensures in
-    let d = digits known in
-    omega
-    (arith, known .before .before .pre, d .code-digits, d .kind-digits, d .record-digits, d .place-digits, e₁ .0, e₂ .0, e₃ .0)
-
 returns : tie.Need-returns
 returns c =
     let fourth = c .before .before in
@@ -56,18 +24,18 @@ returns c =
     let e₄ = fourth .put-number4 .ensures in
     let d = digits known in
     let stored = answer-stored (a .answer) (a .out .now) _ _ _ _ _ _ _ _ (e₁ .0) (e₁ .1) (e₂ .0) (e₂ .1) (e₃ .0) (e₃ .1) (e₄ .0) (e₄ .1) in
-    (omega (arith, d .code-digits, d .kind-digits, d .record-digits, d .place-digits, e₁ .0, e₂ .0, e₃ .0, e₄ .0), (stored .0, stored .1))
+    (omega arith, (stored .0, stored .1))
 
 pub put-answer-spec : {M : Type 1} → statement M
 put-answer-spec =
     tie.close
     (tie.spec
     (λ c. search needs)
-    (λ c κs. let d = digits (c .before) in omega (arith, d .code-digits, c .before .before .before .pre))
+    (λ c κs. let d = digits (c .before) in omega arith)
     (λ c. search needs)
-    second-room
+    (λ c κs. let d = digits (c .before .before .before .before .before .before) in omega arith)
     (λ c. search needs)
-    third-room
-    fourth-room
+    (λ c κs. let d = digits (c .before .before .before .before .before .before .before .before .before .before .before) in omega arith)
+    (λ c κs. let d = digits (c .before .before .before .before .before .before .before .before .before .before .before .before .before .before .before) in omega arith)
     (λ c. search needs)
     returns)

@@ -14,10 +14,10 @@ returns c =
     let a = c .before .before .before .before .before .before .args in
     let long = text-length (a .answer) (a .claim .now) in
     let e = c .before .before .put-answer .ensures in (
-      omega (arith, e .0),
+      omega arith,
       record {
-        returned = omega (arith, long, e .1 .0);
-        slice = sym (stored-without-room (text (a .answer) (a .claim .now)) (a .out .now) (omega (arith, long, e .1 .0, c .if1 .taken)));
+        returned = omega arith;
+        slice = sym (stored-without-room (text (a .answer) (a .claim .now)) (a .out .now) (omega arith));
       },
     )
 
@@ -30,12 +30,12 @@ returns-2 c =
     let a = made .before .before .before .before .args in
     let e = made .put-answer .ensures in
     let long = text-length (a .answer) (a .claim .now) in (
-      omega (arith, e .0),
+      omega arith,
       record {
-        returned = omega (arith, long, e .1 .0);
+        returned = omega arith;
         slice =
             text-stored (a .answer) (a .claim .now) _ _ (a .out .now) _ _ _ (e .1 .0) (e .0) (e .1 .1) (copied .put .ensures) (hexed .put-hex .ensures)
-            ∙ sym (stored-with-room (text (a .answer) (a .claim .now)) (a .out .now) (omega (arith, long, e .1 .0, tested .if1 .left)));
+            ∙ sym (stored-with-room (text (a .answer) (a .claim .now)) (a .out .now) (omega arith));
       },
     )
 
@@ -46,11 +46,11 @@ put-text-spec =
     (λ c. search needs)
     (λ c κs. search needs)
     (λ c. search needs)
-    (λ c. omega (arith, c .before .put-answer .ensures .0, c .before .before .before .before .before .pre))
+    (λ c. omega arith)
     returns
-    (λ c. omega (arith, c .before .before .before .put-answer .ensures .0))
-    (λ c. sym (length-take-le _ _ (omega (arith, c .before .before .before .before .put-answer .ensures .0))))
-    (λ c κs. let made = c .before .before .before .before .put-answer in omega (arith, c .before .before .if1 .left, length-take-le (made .result) (made .last .1 .0) (omega (arith, made .ensures .0))))
-    (λ c κs. omega (arith, hex-length (c .before .before .before .before .before .before .before .before .before .before .before .before .args .claim .now), c .before .before .before .before .before .before .if1 .left))
+    (λ c. omega arith)
+    (λ c. sym (length-take-le _ _ (omega arith)))
+    (λ c κs. let made = c .before .before .before .before .put-answer in omega (arith, length-take-le (made .result) (made .last .1 .0) (omega arith)))
+    (λ c κs. omega (arith, hex-length (c .before .before .before .before .before .before .before .before .before .before .before .before .args .claim .now)))
     (λ c. search needs)
     returns-2)
