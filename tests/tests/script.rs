@@ -13,6 +13,10 @@ use std::path::{Path, PathBuf};
 use std::process::{self, Command};
 use std::{env, iter};
 
+use zap_tests::cases::NAMED;
+use zap_tests::claims::trees::split_everywhere;
+use zap_tests::reference::programs::hex;
+
 // ---- Running it ----
 
 fn repository() -> PathBuf {
@@ -106,10 +110,6 @@ impl Drop for Folder {
     }
 }
 
-fn hex(bytes: &[u8]) -> String {
-    bytes.iter().map(|byte| format!("{byte:02X}")).collect()
-}
-
 const CONJ: &str = "46 4E 02 01 02 03 00 00 01 00 02";
 const DISJ: &str = "46 4E 02 02 01 01 00 02 00 00 03";
 const ODD: &str = "46 4E 02 02 02 01 02 02 01 03 00 00 03";
@@ -122,17 +122,13 @@ const OPEN: &str = "46 4E 01 00 00";
 #[test]
 fn the_samples_are_those_of_01() {
     let read = |name| fs::read(repository().join("examples").join(name)).expect("a sample");
-    for (name, record) in [
-        ("conj.hex", CONJ),
-        ("disj.hex", DISJ),
-        ("odd.hex", ODD),
-        ("const.hex", CONST),
-        ("wire.hex", WIRE),
-        ("open.hex", OPEN),
-    ] {
-        assert_eq!(read(name), format!("{record}\n").into_bytes(), "{name}");
+    let samples = ["conj.hex", "disj.hex", "odd.hex", "const.hex", "wire.hex", "open.hex"];
+    let texts = [CONJ, DISJ, ODD, CONST, WIRE, OPEN];
+    for ((name, text), record) in samples.into_iter().zip(texts).zip(NAMED) {
+        assert_eq!(text, hex(record), "{name}");
+        assert_eq!(read(name), format!("{text}\n").into_bytes(), "{name}");
     }
-    assert_eq!(hex(&read("conj.fn")), CONJ.replace(' ', ""));
+    assert_eq!(hex(&read("conj.fn")), CONJ);
 }
 
 #[test]
@@ -346,18 +342,6 @@ fn no_code_is_left_out() {
     assert_eq!((1..=17).filter(|&code| !told(code)).collect::<Vec<_>>(), []);
 }
 
-/// A tree for so many free inputs that splits down to depth n.
-fn split_everywhere(free: usize, closing: [u8; 3], tree: &mut Vec<u8>) {
-    if free == 0 {
-        tree.extend(closing);
-        return;
-    }
-    tree.push(0xFF);
-    for _ in 0..2 * free {
-        split_everywhere(free - 1, closing, tree);
-    }
-}
-
 /// The longest claim for 5 inputs. A tree for so many free inputs has 3, 1 + 2·3 = 7,
 /// 1 + 4·7 = 29, 1 + 6·29 = 175, 1 + 8·175 = 1,401, 1 + 10·1,401 = 14,011 bytes.
 const LONGEST: usize = 3 + 2 * 14_011;
@@ -384,7 +368,7 @@ fn long_claims() {
     folder.write("g", "46 4E 05 01 01 01 00 00 01");
     let mut claim = vec![0x52, 0x46, 5];
     for _ in 0..2 {
-        split_everywhere(5, [0, 0, 0], &mut claim);
+        split_everywhere(5, [[0; 3]; 2], &mut claim);
     }
     assert_eq!(claim.len(), LONGEST);
     let check = |claim: &[u8], out: &str, status| {

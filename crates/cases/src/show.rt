@@ -1,5 +1,4 @@
 // What a line is made of: text, decimal numbers, bytes in capital hex.
-ghost use Prim.Native.Nat.{_<_};
 use answers::Answer;
 
 pub fn text(bytes: &[u8]) {
@@ -34,14 +33,8 @@ pub fn answer(name: &[u8], found: Answer) {
     text(b"; ");
 }
 
-fn digit(d: u8) -> u8
-    requires { ⌜ d < 16 ⌝ }
-{
-    if d < 10 { b'0' + d } else { b'A' + (d - 10) }
-}
-
 pub fn byte(b: u8) {
-    let two = [digit(b / 16), digit(b % 16)];
+    let two = [lines::digit(b / 16), lines::digit(b % 16)];
     text(&two);
 }
 

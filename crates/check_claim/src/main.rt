@@ -3,7 +3,8 @@
 ghost use mathlib.Core.Path.{_≡_};
 ghost use lib.ListN.{length};
 
-// Room for the input: two records never take more than 2,050 bytes, and a claim of 49,153 is too long whatever follows.
+// Room for the input: two records never take more than 2,050 bytes, and a claim of 49,153 is too long whatever follows
+// (`check-enough`).
 fn records_and_claim() -> [u8; 51203]
     ensures { λ r. ⌜ 51203 ≡ length r ⌝ }
 {

@@ -8,12 +8,12 @@ use denote.Ref.{at-last}
 use denote.Triple.Clauses.{AtExit}
 use lib.ListN.{length, replicate}
 use Rattle.bits.specs.Bits.{bit, number, every, any, count}
-use Rattle.cubes.specs.Cubes.{cube-holds, cubes-share, some-cube, patterns-held, inputs-used}
+use Rattle.cubes.specs.Cubes.{cube-holds, cubes-share, some-cube}
 use Rattle.answers.specs.declared.Answer.{Answer}
 use Rattle.answers.specs.Answers.{accepted, refused, _then_, _or-else_, by, byte-fault, length-fault, fits, buffer-after}
 use Rattle.rules.specs.Lists.{run, filter, first, some-in}
 use Rattle.rules.specs.Rules.{completions}
-use Rattle.records.specs.Records.{on-list, off-list, off-count, cube-code, clash-code, first-fault, header-bytes, header-fault, record-fault, both-read, reading, summing, bytes-at-fault, memory-at-fault}
+use Rattle.records.specs.Records.{on-list, off-list, cube-code, clash-code, first-fault, header-bytes, header-fault, record-fault, both-read, reading, bytes-at-fault, memory-at-fault}
 use Rattle.writer.specs.Writing.{record-bytes, few, sizes, cubes, writing}
 use Rattle.wirings.specs.Wirings.{choices-from, served, read-at, disagree-at, agrees, wirings}
 use Rattle.wirings.specs.Pairs.{separates, dead, side, against, pairs, first-dead}
@@ -29,18 +29,10 @@ use Rattle.matcher.proofs.find.Kinds as find-kinds
 use Rattle.matcher.proofs.find.Reads as find
 use Rattle.records.proofs.read.Kinds as read-kinds
 use Rattle.records.proofs.read.Reads as read
-use Rattle.records.proofs.summary.Kinds as summary-kinds
-use Rattle.records.proofs.summary.Reads as summary
 use Rattle.records.proofs.at_fault.Kinds as at-fault-kinds
 use Rattle.records.proofs.at_fault.Reads as at-fault
 use Rattle.writer.proofs.write.Kinds as write-kinds
 use Rattle.writer.proofs.write.Reads as write
-
--- a summary that counts cubes in place of patterns: Conj has 2 off cubes, and 3 off patterns
-pub cubes-not-counted : (κs : Lfts 1) (a : Dens κs summary-kinds.ps) (r : resT summary-kinds.r κs .Denot) (s : AtExit (endedOf 1 summary-kinds.ps summary-kinds.r) κs)
-    → summary.Post κs (at-last (a .0) Conj, tt) r s → (off-count Conj ≡ 2) × (r .off ≡ 3)
-unfolding bit every any count cube-holds cubes-share some-cube patterns-held inputs-used _then_ byte-fault length-fault on-list off-list cube-code clash-code first-fault header-bytes header-fault record-fault summing
-cubes-not-counted κs a r s p = (refl, ap (λ x. x .off) p)
 
 -- a reader that tests 6 before 5: of one input, the cube 02 02 names input 1 in both masks, and is refused by 5
 pub five-before-six : (κs : Lfts 1) (a : Dens κs read-kinds.ps) (r : resT read-kinds.r κs .Denot) (s : AtExit (endedOf 1 read-kinds.ps read-kinds.r) κs)

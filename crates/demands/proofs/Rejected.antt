@@ -11,6 +11,7 @@ use denote.Triple.Clauses.{AtExit}
 use lib.ListN.{getD, replicate}
 use Rattle.answers.specs.declared.Answer.{Answer}
 use Rattle.records.specs.declared.Figures.{Figures}
+use Rattle.records.specs.Records.{off-count}
 use Rattle.demands.proofs.Table.{Conj, Disj, Const, Wire, Conj-Disj, starred-right}
 use Rattle.demands.proofs.Refused.{checker-answers, wrong-checkers-ruled-out, matcher-answers}
 use Rattle.checker.proofs.check.Kinds as check-kinds
@@ -53,11 +54,16 @@ module _ (κs : Lfts 3) (a : Dens κs find-kinds.ps) (r : resT find-kinds.r κs 
   pub not-untouched : after ≡ replicate 8 0xEE → ⊥
   not-untouched same = eqb-false 0x4D 0xEE refl (ap (λ (l : List ℕ). getD l 0 0) (sym after-is ∙ same))
 
--- ---- the summary
+-- ---- the summary, for Conj
 
--- one with invented counts: those of Conj are 1, 3 and 2, and no others
-pub no-invented-counts : (κs : Lfts 1) (a : Dens κs summary-kinds.ps) (r : resT summary-kinds.r κs .Denot) (s : AtExit (endedOf 1 summary-kinds.ps summary-kinds.r) κs)
-    → summary.Post κs (at-last (a .0) Conj, tt) r s → (r .on ≡ 1) × (r .off ≡ 3) × (r .used ≡ 2)
-no-invented-counts κs a r s p =
-    let is = p ∙ starred-right .1 .1 .1 .1 .1 .1 .1 .1 .1 .1 .1 .1 .1 .1 .1 .1 .0 in
-    (ap (λ (x : Figures). x .on) is, ap (λ (x : Figures). x .off) is, ap (λ (x : Figures). x .used) is)
+module _ (κs : Lfts 1) (a : Dens κs summary-kinds.ps) (r : resT summary-kinds.r κs .Denot) (s : AtExit (endedOf 1 summary-kinds.ps summary-kinds.r) κs)
+    (p : summary.Post κs (at-last (a .0) Conj, tt) r s) where
+  -- one with invented counts: these are 1, 3 and 2, and no others
+  pub no-invented-counts : (r .on ≡ 1) × (r .off ≡ 3) × (r .used ≡ 2)
+  no-invented-counts =
+      let is = p ∙ starred-right .1 .1 .1 .1 .1 .1 .1 .1 .1 .1 .1 .1 .1 .1 .1 .1 .0 in
+      (ap (λ (x : Figures). x .on) is, ap (λ (x : Figures). x .off) is, ap (λ (x : Figures). x .used) is)
+
+  -- and so none that counts cubes in place of patterns: Conj has 2 off cubes
+  pub cubes-not-counted : (off-count Conj ≡ 2) × (r .off ≡ 3)
+  cubes-not-counted = (refl, no-invented-counts .1)

@@ -42,7 +42,8 @@ fn what_follows(input: &[u8]) -> &[u8]
     &input[end..]
 }
 
-fn digit(d: u8) -> u8
+// A digit in capital hex.
+pub fn digit(d: u8) -> u8
     requires { ⌜ d < 16 ⌝ }
     ensures { λ r. ⌜ r ≡ glyph d ⌝ }
 {

@@ -3,7 +3,7 @@
 ghost use mathlib.Core.Path.{_≡_};
 ghost use lib.ListN.{length};
 
-// Room for the input: two records never take more than 2,050 bytes, and what follows them is ignored.
+// Room for the input: two records never take more than 2,050 bytes, and what follows them is ignored (`match-enough`).
 fn two_records() -> [u8; 2050]
     ensures { λ r. ⌜ 2050 ≡ length r ⌝ }
 {
