@@ -1,10 +1,11 @@
-/* Matches Conj to Disj and prints the answer as the match program does, then checks the claim. */
+/* Writes Conj from its cubes, summarises it, matches it to Disj and checks the claim; prints each answer's four numbers. */
 #include <inttypes.h>
 #include <stdio.h>
 
 #include "zap.h"
 
-static const uint8_t f[] = {0x46, 0x4E, 2, 1, 2, 3, 0, 0, 1, 0, 2}; /* Conj */
+static const uint8_t on[] = {3, 0};        /* x0 and x1 */
+static const uint8_t off[] = {0, 1, 0, 2}; /* not x0; not x1 */
 static const uint8_t g[] = {0x46, 0x4E, 2, 2, 1, 1, 0, 2, 0, 0, 3}; /* Disj */
 
 static void print_answer(uint64_t answer)
@@ -13,23 +14,36 @@ static void print_answer(uint64_t answer)
            zap_place(answer));
 }
 
-static void print_claim(const uint8_t *claim, size_t length)
+static void print_bytes(const uint8_t *bytes, size_t length)
 {
     for (size_t i = 0; i < length; i++)
-        printf(i == 0 ? "%02X" : " %02X", claim[i]);
+        printf(i == 0 ? "%02X" : " %02X", bytes[i]);
     printf("\n");
 }
 
 int main(void)
 {
+    uint8_t f[261];
+    uint64_t answer = zap_write(2, on, sizeof on, off, sizeof off, f, sizeof f);
+    print_answer(answer);
+    if (zap_code(answer) != ZAP_ACCEPTED)
+        return 1;
+    size_t f_length = (size_t)zap_place(answer);
+    print_bytes(f, f_length);
+
+    uint64_t figures[3];
+    print_answer(zap_summary(f, f_length, figures, 3));
+    printf("%" PRIu64 " on, %" PRIu64 " off, %" PRIu64 " in use\n", figures[0], figures[1],
+           figures[2]);
+
     uint8_t claim[4096];
-    uint64_t answer = zap_match(f, sizeof f, g, sizeof g, claim, sizeof claim);
+    answer = zap_match(f, f_length, g, sizeof g, claim, sizeof claim);
     print_answer(answer);
     if (zap_code(answer) != ZAP_ACCEPTED)
         return 1;
     size_t length = (size_t)zap_place(answer);
-    print_claim(claim, length);
+    print_bytes(claim, length);
 
-    print_answer(zap_check(f, sizeof f, g, sizeof g, claim, length));
+    print_answer(zap_check(f, f_length, g, sizeof g, claim, length));
     return 0;
 }

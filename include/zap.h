@@ -1,11 +1,17 @@
 /*
- * The matcher and the checker, for C and C++.
+ * The matcher, the checker, the summary and the writer, for C and C++.
  *
- * `rt staticlib host` writes target/staticlib/libhost.a, which holds them.
+ * `rt staticlib host` writes target/staticlib/libhost.a, which holds them. How
+ * functions and claims are written, byte by byte, is told in docs/FORMATS.md.
  *
  * The caller keeps this: each pointer is valid for its length, and not null even
- * where the length is 0; `out` overlaps neither f nor g. Nothing else is asked:
- * the bytes may be anything, and bad ones are refused.
+ * where the length is 0; what a call writes to (`out`, `figures`) overlaps nothing
+ * else that it is given. Nothing else is asked: the bytes may be anything, and bad
+ * ones are refused.
+ *
+ * The calls keep nothing between them, so any number may run at once, in any threads.
+ * They ask for no memory but stack: zap_match takes up to 3.2 kB of it, zap_check
+ * 2.1 kB, the others less than 0.5 kB (measured, x86-64).
  */
 #ifndef ZAP_H
 #define ZAP_H
@@ -35,10 +41,29 @@ uint64_t zap_check(const uint8_t *f, size_t f_len, const uint8_t *g, size_t g_le
                    const uint8_t *claim, size_t claim_len);
 
 /*
- * Either answer is one number: code + 256 kind + 65,536 record + 16,777,216 place.
+ * Counts the patterns at which f is on, those at which it is off, and the inputs in
+ * use: three numbers at the start of `figures`, whose length counts numbers. They are
+ * stored if there is room for three, else nothing is. A refused f gives three zeros.
+ */
+uint64_t zap_summary(const uint8_t *f, size_t f_len, uint64_t *figures, size_t figures_len);
+
+/*
+ * Writes the function record of n inputs and two lists of cubes, two bytes each, at
+ * the start of `out`, and nothing after it; if the call refuses, no byte of `out`
+ * changes. No record is longer than 261 bytes, and code 18 tells the length needed.
+ * In a refusal record 1 is the on list, 2 the off list, and places count within it.
+ */
+uint64_t zap_write(uint8_t n, const uint8_t *on, size_t on_len, const uint8_t *off,
+                   size_t off_len, uint8_t *out, size_t out_len);
+
+/*
+ * Each answer is one number: code + 256 kind + 65,536 record + 16,777,216 place.
  *
- * Accepted: code 0, record 0, and the place is the claim's length.
- * Refused: kind 0, and record and place say where the fault is. Places count from 0.
+ * Accepted: code 0, record 0, and the place is the length of what was written, else of
+ * the claim, else of the record read.
+ * Refused: kind 0, and record and place say where the fault is. Places count from 0. A
+ * place has 40 bits; only the length that code 19 tells could need more, and it is
+ * then told as the largest that fits, 1,099,511,627,775.
  */
 static inline unsigned zap_code(uint64_t answer) { return (unsigned)(answer & 255); }
 static inline unsigned zap_kind(uint64_t answer) { return (unsigned)((answer >> 8) & 255); }
@@ -49,13 +74,13 @@ enum zap_kinds {
     ZAP_REFUSED = 0,
     ZAP_MATCH = 1,
     ZAP_NO_MATCH = 2,
-    ZAP_ALL_ELSE = 3 /* for reader, summary and writer: never from these two calls */
+    ZAP_ALL_ELSE = 3 /* from zap_summary and zap_write */
 };
 
 enum zap_records {
     ZAP_OF_NONE = 0,
-    ZAP_OF_F = 1,
-    ZAP_OF_G = 2,
+    ZAP_OF_F = 1,     /* of zap_write: the on list */
+    ZAP_OF_G = 2,     /* of zap_write: the off list */
     ZAP_OF_CLAIM = 3,
     ZAP_OF_OUT = 4
 };
@@ -91,7 +116,7 @@ enum zap_codes {
     /* The output buffer. */
     ZAP_BUFFER_SHORT = 18,   /* the output buffer is too short: the length needed */
 
-    /* The writer's alone: never from these two calls. */
+    /* From zap_write alone. */
     ZAP_ODD_LIST = 19        /* a cube list has an odd length: that length */
 };
 

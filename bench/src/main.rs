@@ -4,7 +4,7 @@
 //! once and only compares answers. The archives are looked for in
 //! ../target/staticlib, or where ZAP_ARCHIVES says.
 //!
-//! - `zap_tests::calls`: the functions under test, taken from the static archives;
+//! - `zap_calls`: the functions under test, taken from the static archives;
 //! - `plain`: the same in plain Rust, as one would write it without proofs;
 //! - `inputs`: functions and claims, made with fixed seeds;
 //! - `table`: both sides run in turn, and the tables of the best times.
@@ -22,7 +22,7 @@ use std::process::ExitCode;
 
 use inputs::{Claim, Pair, Pairs};
 use table::{Row, Side, Table};
-use zap_tests::calls;
+use zap_calls as calls;
 
 fn main() -> ExitCode {
     let words: Vec<String> = env::args().skip(1).collect();

@@ -2,10 +2,13 @@
 //!
 //! Run by `cargo test --release --offline`. The archives under test are looked for
 //! in ../target/staticlib, or where ZAP_ARCHIVES says; the programs in ../target/bin,
-//! or where ZAP_PROGRAMS says.
+//! or where ZAP_PROGRAMS says; the command `zap` in ../cli/target/release, or where
+//! ZAP_BINARY says.
 //!
 //! - `reference`: 01 in plain Rust, from its text, by patterns and brute force;
 //! - `calls`: the functions under test, taken from the static archives;
+//! - `command`: the command `zap`, run as a person runs it;
+//! - `json`: a reader for what it prints for scripts;
 //! - `random`: a generator with fixed seeds, and the functions made by it;
 //! - `records`: the calls on function records, held against the reference;
 //! - `wirings`: the call for dead pairs under a partial wiring, likewise;
@@ -20,6 +23,8 @@
 pub mod calls;
 pub mod cases;
 pub mod claims;
+pub mod command;
+pub mod json;
 pub mod lent;
 pub mod matches;
 pub mod programs;

@@ -1,3 +1,4 @@
 pub mod Faults
 pub mod Stores
+pub mod Told
 pub mod Settled

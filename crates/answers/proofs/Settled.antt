@@ -15,10 +15,14 @@ use Rattle.answers.proofs.length_fault.Kinds as length-fault-kinds
 use Rattle.answers.proofs.length_fault.Reads as length-fault
 use Rattle.answers.proofs.pack.Kinds as pack-kinds
 use Rattle.answers.proofs.pack.Reads as pack
+use Rattle.answers.proofs.tell.Kinds as tell-kinds
+use Rattle.answers.proofs.tell.Reads as tell
 use Rattle.answers.proofs.put.Kinds as put-kinds
 use Rattle.answers.proofs.put.Reads as put
 use Rattle.answers.proofs.leave.Kinds as leave-kinds
 use Rattle.answers.proofs.leave.Reads as leave
+use Rattle.answers.proofs.store_three.Kinds as store-three-kinds
+use Rattle.answers.proofs.store_three.Reads as store-three
 
 pub accepted-settled : Settled 0 accepted-kinds.ps accepted-kinds.r accepted.Post
 accepted-settled κs a r₁ r₂ s₁ s₂ p q = p ∙ sym q
@@ -38,9 +42,15 @@ length-fault-settled κs a r₁ r₂ s₁ s₂ p q = p ∙ sym q
 pub pack-settled : Settled 0 pack-kinds.ps pack-kinds.r pack.Post
 pack-settled κs a r₁ r₂ s₁ s₂ p q = p .0 ∙ sym (q .0)
 
+pub tell-settled : Settled 0 tell-kinds.ps tell-kinds.r tell.Post
+tell-settled κs a r₁ r₂ s₁ s₂ p q = p .0 ∙ sym (q .0)
+
 -- what is seen is the buffer afterwards
 pub put-settled : SettledAs 2 put-kinds.ps put-kinds.r (λ κs. List ℕ) (λ κs x s. s .0 .now) put.Post
 put-settled κs a r₁ r₂ s₁ s₂ p q = p ∙ sym q
+
+pub store-three-settled : SettledAs 1 store-three-kinds.ps store-three-kinds.r (λ κs. List ℕ) (λ κs x s. s .0 .now) store-three.Post
+store-three-settled κs a r₁ r₂ s₁ s₂ p q = p ∙ sym q
 
 pub leave-settled : SettledAs 2 leave-kinds.ps leave-kinds.r (λ κs. ℕ × List ℕ) (λ κs x s. (x, s .0 .now)) leave.Post
 leave-settled κs a r₁ r₂ s₁ s₂ p q i = ((p .returned ∙ sym (q .returned)) i, (p .slice ∙ sym (q .slice)) i)

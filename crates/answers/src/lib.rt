@@ -1,9 +1,10 @@
 // The four numbers of an answer, faults found while bytes are read in order, and writing into a lent buffer.
 ghost use mathlib.Core.Path.{_≡_};
+ghost use mathlib.Core.List.{[], _∷_};
 ghost use Prim.Native.Nat.{_+_, _^_, _≤_, _<_};
 ghost use lib.ListN.{length};
 ghost use lib.Seq.{sets};
-ghost use Rattle.answers.specs.Answers.{_then_, byte-fault, length-fault, Leaves, packed, Tells};
+ghost use Rattle.answers.specs.Answers.{_then_, byte-fault, length-fault, stored-if-room, Leaves, packed, told, Tells};
 ghost use Rattle.answers.specs.Answers.{accepted as accepting, refused as refusing};
 
 // What reader, summary, matcher, checker and writer answer.
@@ -115,6 +116,18 @@ pub fn leave(out: &mut [u8], bytes: &[u8]) -> usize
     len
 }
 
+// Stores three numbers at the slice's start, if it has room for them.
+pub fn store_three(numbers: &mut [u64], x: u64, y: u64, z: u64)
+    ensures { λ r. ⌜ now (numbers .exit) ≡ stored-if-room (x ∷ y ∷ z ∷ []) (now (numbers .entry)) ⌝ }
+{
+    if numbers.len() < 3 {
+        return;
+    }
+    numbers[0] = x;
+    numbers[1] = y;
+    numbers[2] = z;
+}
+
 // One number for a host.
 pub fn pack(answer: Answer) -> u64
     requires { ⌜ answer .place < 2 ^ 40 ⌝ }
@@ -126,4 +139,23 @@ pub fn pack(answer: Answer) -> u64
     let record = answer.record as u64;
     let place = answer.place as u64;
     code + 256 * kind + 65536 * record + 16777216 * place
+}
+
+// The largest place that the number has room for.
+const MOST_TOLD: usize = 0xFF_FFFF_FFFF;
+
+// One number for a host, whatever the place: beyond the largest that fits, that one is told.
+pub fn tell(answer: Answer) -> u64
+    ensures { λ r. ⌜ r ≡ packed (told answer) ⌝ }
+    ensures { λ r. ⌜ Tells (told answer) r ⌝ }
+{
+    if answer.place <= MOST_TOLD {
+        return pack(answer);
+    }
+    pack(Answer {
+        code: answer.code,
+        kind: answer.kind,
+        record: answer.record,
+        place: MOST_TOLD,
+    })
 }

@@ -1,9 +1,12 @@
-// What the engine calls: matcher and checker on byte slices. Each answer is one number, which fits for every input.
+// What the engine calls, all on slices: matcher, checker, summary and writer. Each answer is one number, which fits for every
+// input.
 ghost use mathlib.Core.Path.{_≡_};
 ghost use lib.ListN.{length};
-ghost use Rattle.answers.specs.Answers.{packed, Tells, buffer-after};
+ghost use Rattle.answers.specs.Answers.{packed, told, Tells, buffer-after, Leaves};
+ghost use Rattle.records.specs.Records.{summing, figures-of};
 ghost use Rattle.checker.specs.Checking.{checking};
 ghost use Rattle.matcher.specs.Matching.{matching, claim-for};
+ghost use Rattle.writer.specs.Writing.{writing, record-bytes};
 
 #[no_mangle]
 pub extern "C" fn zap_match(f: &[u8], g: &[u8], out: &mut [u8]) -> u64
@@ -20,4 +23,29 @@ pub extern "C" fn zap_check(f: &[u8], g: &[u8], claim: &[u8]) -> u64
     ensures { λ r. ⌜ Tells (checking (now (f .entry)) (now (g .entry)) (now (claim .entry))) r ⌝ }
 {
     answers::pack(checker::check(f, g, claim))
+}
+
+// The record's on patterns, off patterns and inputs in use, in this order, at the start of `figures`, if it has room for three.
+#[no_mangle]
+pub extern "C" fn zap_summary(f: &[u8], figures: &mut [u64]) -> u64
+    ensures { λ r. ⌜ Leaves (packed (summing (now (f .entry)) .answer)) (figures-of (summing (now (f .entry)))) (now (figures .entry)) (now (figures .exit)) r ⌝ }
+    ensures { λ r. ⌜ Tells (summing (now (f .entry)) .answer) r ⌝ }
+{
+    let found = records::summary(f);
+    let on = found.on as u64;
+    let off = found.off as u64;
+    let used = found.used as u64;
+    answers::store_three(figures, on, off, used);
+    let answer = found.answer;
+    answers::pack(answer)
+}
+
+// A list of an odd length is refused at its end, which can lie anywhere: so `tell`, and not `pack`.
+#[no_mangle]
+pub extern "C" fn zap_write(n: u8, on: &[u8], off: &[u8], out: &mut [u8]) -> u64
+    ensures { λ r. ⌜ r ≡ packed (told (writing n (now (on .entry)) (now (off .entry)) (length (now (out .entry))))) ⌝ }
+    ensures { λ r. ⌜ Tells (told (writing n (now (on .entry)) (now (off .entry)) (length (now (out .entry))))) r ⌝ }
+    ensures { λ r. ⌜ now (out .exit) ≡ buffer-after (writing n (now (on .entry)) (now (off .entry)) (length (now (out .entry)))) (record-bytes n (now (on .entry)) (now (off .entry))) (now (out .entry)) ⌝ }
+{
+    answers::tell(writer::write(n, on, off, out))
 }

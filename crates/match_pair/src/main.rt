@@ -1,5 +1,6 @@
 // The match program: f and g from standard input, the answer and the claim to standard output. What it prints is made by
-// `lines::match_lines`; here it is only read and written.
+// `lines::match_lines`; here it is only read and written. If a read fails nothing is printed. A program has no exit status, so
+// what failed is told on standard error.
 ghost use mathlib.Core.Path.{_≡_};
 ghost use lib.ListN.{length};
 
@@ -19,8 +20,15 @@ fn two_lines() -> [u8; 12321]
 
 fn main() {
     let mut input = two_records();
-    let got = io::read_full(0, &mut input);
+    let read = input::read_whole(0, &mut input);
+    if !read.whole {
+        os::fail(b"match_pair: standard input");
+        return;
+    }
+    let got = read.len;
     let mut text = two_lines();
     let len = lines::match_lines(&input[..got], &mut text);
-    io::write_all(1, &text[..len]);
+    if !io::write_all(1, &text[..len]) {
+        os::fail(b"match_pair: standard output");
+    }
 }

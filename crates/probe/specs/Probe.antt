@@ -6,7 +6,6 @@ use lib.Dec.{eqb}
 use Rattle.answers.specs.declared.Answer.{Answer}
 use Rattle.answers.specs.Answers.{packed, is-sound}
 use Rattle.records.specs.declared.Reading.{Reading}
-use Rattle.records.specs.declared.Figures.{Figures}
 use Rattle.records.specs.Records.{inputs, both-read}
 use Rattle.wirings.specs.Pairs.{first-dead}
 use Rattle.partial.specs.declared.Found.{Found}
@@ -17,12 +16,9 @@ use Rattle.partial.specs.Partial.{found}
 unfoldable pub packed-mod : Answer → ℕ
 packed-mod a = packed (record { code = a .code; kind = a .kind; «record» = a .«record»; place = a .place % 2 ^ 40 })
 
--- the three numbers beside an answer
+-- the three numbers beside the reader's answer
 abbrev pub counts-of : Reading → List ℕ
 counts-of r = r .n ∷ r .a ∷ r .b ∷ []
-
-abbrev pub figures-of : Figures → List ℕ
-figures-of r = r .on ∷ r .off ∷ r .used ∷ []
 
 -- ---- the first dead pair
 

@@ -1,12 +1,10 @@
-// Exported functions for tests alone: what the host's two do not show. Each hands a call's answer over as one number.
+// Exported functions for tests alone: what the host's calls do not show. Each hands a call's answer over as one number.
 ghost use mathlib.Core.Path.{_≡_};
-ghost use mathlib.Core.List.{[], _∷_};
 ghost use lib.ListN.{length};
-ghost use Rattle.answers.specs.Answers.{buffer-after, stored-if-room, Leaves};
-ghost use Rattle.records.specs.Records.{reading, summing, bytes-at-fault};
-ghost use Rattle.writer.specs.Writing.{writing, record-bytes};
+ghost use Rattle.answers.specs.Answers.{Leaves};
+ghost use Rattle.records.specs.Records.{reading, bytes-at-fault};
 ghost use Rattle.partial.specs.Partial.{Few};
-ghost use Rattle.probe.specs.Probe.{packed-mod, counts-of, figures-of, pair-number, dead-number};
+ghost use Rattle.probe.specs.Probe.{packed-mod, counts-of, pair-number, dead-number};
 use answers::Answer;
 use partial::Found;
 
@@ -21,49 +19,14 @@ fn packed_mod(answer: Answer) -> u64
     })
 }
 
-// Stores three numbers at the slice's start, if it has room for them.
-fn store_three(numbers: &mut [u64], x: u64, y: u64, z: u64)
-    ensures { λ r. ⌜ now (numbers .exit) ≡ stored-if-room (x ∷ y ∷ z ∷ []) (now (numbers .entry)) ⌝ }
-{
-    if numbers.len() < 3 {
-        return;
-    }
-    numbers[0] = x;
-    numbers[1] = y;
-    numbers[2] = z;
-}
-
 #[no_mangle]
 pub extern "C" fn probe_read(record: &[u8], numbers: &mut [u64]) -> u64
     ensures { λ r. ⌜ Leaves (packed-mod (reading (now («record» .entry)) .answer)) (counts-of (reading (now («record» .entry)))) (now (numbers .entry)) (now (numbers .exit)) r ⌝ }
 {
     let found = records::read(record);
-    store_three(numbers, found.n as u64, found.a as u64, found.b as u64);
+    answers::store_three(numbers, found.n as u64, found.a as u64, found.b as u64);
     let answer = found.answer;
     packed_mod(answer)
-}
-
-#[no_mangle]
-pub extern "C" fn probe_summary(record: &[u8], numbers: &mut [u64]) -> u64
-    ensures { λ r. ⌜ Leaves (packed-mod (summing (now («record» .entry)) .answer)) (figures-of (summing (now («record» .entry)))) (now (numbers .entry)) (now (numbers .exit)) r ⌝ }
-{
-    let found = records::summary(record);
-    store_three(
-        numbers,
-        found.on as u64,
-        found.off as u64,
-        found.used as u64,
-    );
-    let answer = found.answer;
-    packed_mod(answer)
-}
-
-#[no_mangle]
-pub extern "C" fn probe_write(n: u8, on: &[u8], off: &[u8], out: &mut [u8]) -> u64
-    ensures { λ r. ⌜ r ≡ packed-mod (writing n (now (on .entry)) (now (off .entry)) (length (now (out .entry)))) ⌝ }
-    ensures { λ r. ⌜ now (out .exit) ≡ buffer-after (writing n (now (on .entry)) (now (off .entry)) (length (now (out .entry)))) (record-bytes n (now (on .entry)) (now (off .entry))) (now (out .entry)) ⌝ }
-{
-    packed_mod(writer::write(n, on, off, out))
 }
 
 // Copies the bytes at fault into the buffer, if they fit, and returns their number.

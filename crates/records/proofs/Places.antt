@@ -14,8 +14,9 @@ use Rattle.answers.specs.declared.Fault.{Fault}
 use Rattle.answers.specs.declared.Answer.{Answer}
 use Rattle.answers.specs.Answers.{fault, sound, fine, refused, by, byte-fault}
 use Rattle.answers.proofs.Faults.{then-cases, byte-cases, length-cases, chosen-elim, then-elim, then-both, byte-place, length-place}
-use Rattle.records.specs.Records.{inputs, on-count, cubes-at, on-list, off-list, is-cubes, header-bytes, header-fault, cubes-fault, clash-fault, record-end, record-fault, both-read, first-fault, cube-code, clash-code}
-use Rattle.records.proofs.Frame.{Framed, bytes-sound, header-sound}
+use Rattle.records.specs.declared.Figures.{Figures}
+use Rattle.records.specs.Records.{inputs, on-count, cubes-at, on-list, off-list, is-cubes, header-bytes, header-fault, cubes-fault, clash-fault, record-end, record-fault, both-read, summing, first-fault, cube-code, clash-code}
+use Rattle.records.proofs.Frame.{Framed, bytes-sound, header-sound, record-sound}
 
 -- ---- by cases: what holds of each fault that a part of the reading gives holds of the one that is found
 
@@ -110,6 +111,12 @@ both-place f g =
   where
     Near : Answer → Type 0
     Near a = a .place ≤ 261
+
+-- and with a summary: an accepted record's place is its length
+pub summing-place : (s : List ℕ) → summing s .answer .place ≤ 261
+unfolding summing
+summing-place s =
+    chosen-elim (λ (r : Figures). r .answer .place ≤ 261) (record-fault s .code) _ _ (λ _. record-place s) (λ z. let h = record-sound s z in omega arith)
 
 -- a sound record has no cube at fault
 pub sound-no-cube : (f : Fault) → f .code ≡ 0 → is-cubes f ≡ false

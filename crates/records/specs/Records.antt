@@ -99,6 +99,9 @@ reading s =
 abbrev pub with-figures : Answer → ℕ → ℕ → ℕ → Figures
 with-figures answer on off used = record { answer = answer; on = on; off = off; used = used }
 
+abbrev pub figures-of : Figures → List ℕ
+figures-of r = r .on ∷ r .off ∷ r .used ∷ []
+
 unfoldable pub summing : List ℕ → Figures
 summing s =
     cond (is-sound (record-fault s))

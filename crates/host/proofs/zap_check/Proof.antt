@@ -1,10 +1,10 @@
 -- Every place that the checker gives is far below 2^40, so the packed number fits.
 use Prim.Native.Nat.{_≤_}
-use mathlib.Core.Path.{ap, sym, subst, _∙_}
+use mathlib.Core.Path.{sym, subst}
 use native.Mathlib.Omega.{arith}
 use borrow.Author.Needs.{needs}
 use Rattle.answers.specs.declared.Answer.{Answer}
-use Rattle.answers.specs.Answers.{packed, Tells}
+use Rattle.answers.proofs.Told.{packed-as}
 use Rattle.checker.proofs.Places.{checking-place}
 use Rattle.host.proofs.zap_check.Statement.{statement}
 use Rattle.host.proofs.zap_check.Tie as tie
@@ -15,10 +15,7 @@ place-fits c κs =
     omega (arith, most)
 
 returns : tie.Need-returns
-returns c =
-    let e = c .before .check .ensures in
-    let p = c .pack .ensures in
-    (p .0 ∙ ap packed e, subst (λ (a : Answer). Tells a (c .pack .result)) e (p .1))
+returns c = packed-as _ (c .before .check .ensures) (c .pack .ensures)
 
 pub zap-check-spec : {M : Type 1} → statement M
 zap-check-spec = tie.close (tie.spec (λ c κs. search needs) place-fits returns)

@@ -1,12 +1,10 @@
-//! Links the static archives under test.
+//! Links the static archives.
 //!
 //! They are looked for in the folder named by ZAP_ARCHIVES, else in
 //! ../target/staticlib. A relative path counts from this package.
 
 use std::env;
 use std::path::PathBuf;
-
-const ARCHIVES: [&str; 2] = ["host", "probe"];
 
 fn main() {
     let package = PathBuf::from(env::var_os("CARGO_MANIFEST_DIR").expect("set by cargo"));
@@ -16,12 +14,16 @@ fn main() {
     };
     println!("cargo:rerun-if-env-changed=ZAP_ARCHIVES");
     println!("cargo:rustc-link-search=native={}", folder.display());
-    for name in ARCHIVES {
+    let archives: &[&str] = match env::var_os("CARGO_FEATURE_PROBE") {
+        Some(_) => &["host", "probe"],
+        None => &["host"],
+    };
+    for name in archives {
         let archive = folder.join(format!("lib{name}.a"));
         println!("cargo:rerun-if-changed={}", archive.display());
         println!("cargo:rustc-link-lib=static={name}");
         if !archive.exists() {
-            panic!("{} is missing: build it, or set ZAP_ARCHIVES to its folder", archive.display());
+            panic!("{} is missing: rt staticlib {name}, or set ZAP_ARCHIVES", archive.display());
         }
     }
 }

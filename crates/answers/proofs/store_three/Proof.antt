@@ -3,9 +3,9 @@ use mathlib.Core.Path.{sym}
 use mathlib.Core.List.{[], _∷_}
 use native.Mathlib.Omega.{arith}
 use lib.ListN.{length-set}
 use Rattle.answers.proofs.Stores.{stored-with-room, stored-without-room}
-use Rattle.probe.proofs.store_three.Statement.{statement}
-use Rattle.probe.proofs.store_three.Tie as tie
+use Rattle.answers.proofs.store_three.Statement.{statement}
+use Rattle.answers.proofs.store_three.Tie as tie
 
 returns : tie.Need-returns
 returns c = let a = c .before .args in sym (stored-without-room (a .x ∷ a .y ∷ a .z ∷ []) (a .numbers .now) (c .if1 .taken))

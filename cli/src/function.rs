@@ -1,0 +1,148 @@
+//! A function that the archive has accepted, taken apart to be shown.
+
+use zap_calls::Answer;
+
+/// Two masks: it holds the patterns in which every input of `pos` is 1 and every
+/// input of `neg` is 0.
+#[derive(Clone, Copy, Debug, PartialEq, Eq)]
+pub struct Cube {
+    pub pos: u8,
+    pub neg: u8,
+}
+
+impl Cube {
+    pub fn holds(self, pattern: usize) -> bool {
+        let pattern = pattern as u8;
+        self.pos & !pattern == 0 && self.neg & pattern == 0
+    }
+
+    /// The inputs that it names.
+    pub fn named(self) -> u8 {
+        self.pos | self.neg
+    }
+
+    /// `x0·x2'`, or `1` for the cube without literals.
+    pub fn product(self) -> String {
+        let literal = |i: usize| match (self.pos >> i & 1, self.neg >> i & 1) {
+            (1, _) => Some(format!("x{i}")),
+            (_, 1) => Some(format!("x{i}'")),
+            _ => None,
+        };
+        let literals: Vec<String> = (0..8).filter_map(literal).collect();
+        if literals.is_empty() {
+            "1".to_string()
+        } else {
+            literals.join("·")
+        }
+    }
+}
+
+#[derive(Clone, Copy, Debug, PartialEq, Eq)]
+pub enum Value {
+    On,
+    Off,
+    Open,
+}
+
+impl Value {
+    pub fn sign(self) -> char {
+        match self {
+            Value::On => '1',
+            Value::Off => '0',
+            Value::Open => '-',
+        }
+    }
+
+    pub fn inverted(self) -> Value {
+        match self {
+            Value::On => Value::Off,
+            Value::Off => Value::On,
+            Value::Open => Value::Open,
+        }
+    }
+}
+
+/// An accepted function, with the archive's own figures.
+#[derive(Debug)]
+pub struct Function {
+    pub n: usize,
+    pub on: Vec<Cube>,
+    pub off: Vec<Cube>,
+    pub on_patterns: usize,
+    pub off_patterns: usize,
+    pub in_use: usize,
+}
+
+impl Function {
+    /// The record's function, if the archive accepts it; its answer in either case.
+    pub fn read(record: &[u8]) -> (Answer, Option<Function>) {
+        let mut figures = [0; 3];
+        let answer = Answer::of(zap_calls::summary(record, &mut figures));
+        if answer.code != 0 {
+            return (answer, None);
+        }
+        let cubes: Vec<Cube> =
+            record[5..].chunks_exact(2).map(|cube| Cube { pos: cube[0], neg: cube[1] }).collect();
+        let (on, off) = cubes.split_at(record[3] as usize);
+        let [on_patterns, off_patterns, in_use] = figures.map(|figure| figure as usize);
+        let function = Function {
+            n: record[2] as usize,
+            on: on.to_vec(),
+            off: off.to_vec(),
+            on_patterns,
+            off_patterns,
+            in_use,
+        };
+        (answer, Some(function))
+    }
+
+    pub fn patterns(&self) -> usize {
+        1 << self.n
+    }
+
+    pub fn open_patterns(&self) -> usize {
+        self.patterns() - self.on_patterns - self.off_patterns
+    }
+
+    pub fn value(&self, pattern: usize) -> Value {
+        if self.on.iter().any(|cube| cube.holds(pattern)) {
+            Value::On
+        } else if self.off.iter().any(|cube| cube.holds(pattern)) {
+            Value::Off
+        } else {
+            Value::Open
+        }
+    }
+
+    /// List s: 0 the on list, 1 the off list.
+    pub fn list(&self, s: u8) -> &[Cube] {
+        if s == 0 {
+            &self.on
+        } else {
+            &self.off
+        }
+    }
+}
+
+/// A pattern's values from the highest input down: pattern 6 of three inputs is 110.
+pub fn bits(pattern: usize, n: usize) -> String {
+    (0..n).rev().map(|i| if pattern >> i & 1 == 1 { '1' } else { '0' }).collect()
+}
+
+#[cfg(test)]
+mod tests {
+    use super::*;
+
+    #[test]
+    fn products() {
+        let product = |pos, neg| Cube { pos, neg }.product();
+        assert_eq!(product(0b101, 0b1000_0000), "x0·x2·x7'");
+        assert_eq!(product(0, 0), "1");
+    }
+
+    #[test]
+    fn patterns_of_bits() {
+        assert_eq!(bits(6, 3), "110");
+        assert_eq!(bits(0, 1), "0");
+    }
+}

@@ -1,0 +1,153 @@
+//! A refusal in words, with the bytes at fault marked in a dump.
+
+use zap_calls::Answer;
+
+use crate::input::{marked_as, Taken};
+use crate::json::Object;
+use crate::output::{Colour, Out};
+use crate::words::{self, number};
+use crate::Status;
+
+/// Bytes in a line of a dump.
+const ROW: usize = 16;
+
+/// More bytes than this are shown near the fault alone, with so many rows before it
+/// and after it.
+const WHOLE: usize = 272;
+const NEAR: usize = 3;
+
+/// Whose fault it is: f, g or the claim, by the answer's record.
+pub fn at_fault<'a>(answer: Answer, parts: &[&'a Taken]) -> Option<&'a Taken> {
+    parts.get((answer.record as usize).checked_sub(1)?).copied()
+}
+
+/// In one line: `g (cell.hex, taken for hex): wrong mark (code 2), at byte 0`.
+pub fn sentence(answer: Answer, parts: &[&Taken]) -> String {
+    let who = match answer.record {
+        1 if parts.len() == 1 => String::new(),
+        1 => "f ".to_string(),
+        2 => "g ".to_string(),
+        3 => "the claim ".to_string(),
+        _ => String::new(),
+    };
+    let whose = match at_fault(answer, parts) {
+        Some(taken) if who.is_empty() => format!("{}: ", taken.described()),
+        Some(taken) => format!("{who}({}): ", taken.described()),
+        None => String::new(),
+    };
+    let hint = at_fault(answer, parts).and_then(|taken| hint(answer, taken));
+    format!("{whose}{}{}", fault(answer), hint.unwrap_or_default())
+}
+
+/// `wrong mark (code 2), at byte 0`.
+pub fn fault(answer: Answer) -> String {
+    format!("{} (code {}){}", words::of_code(answer.code), answer.code, place(answer))
+}
+
+/// Files that were named in another order than they are asked for.
+fn hint(answer: Answer, taken: &Taken) -> Option<String> {
+    let what = marked_as(&taken.bytes).filter(|_| answer.code == 2)?;
+    Some(format!("; these are the bytes of {what}"))
+}
+
+fn place(answer: Answer) -> String {
+    let at = number(answer.place as usize);
+    match answer.code {
+        1 => format!(", after {}", words::count(answer.place as usize, "byte")),
+        14 => String::new(),
+        _ => format!(", at byte {at}"),
+    }
+}
+
+/// The refusal for a person: the sentence, the dump, the numbers.
+pub fn show(out: &mut Out, answer: Answer, parts: &[&Taken]) {
+    let word = out.paint(Colour::Bad, "refused");
+    out.line(&format!("{word}: {}", sentence(answer, parts)));
+    if let Some(taken) = at_fault(answer, parts) {
+        if answer.code != 14 {
+            out.line("");
+            dump(out, &taken.bytes, answer.place as usize, marked(answer.code));
+        }
+    }
+    out.line("");
+    numbers(out, answer);
+}
+
+/// How many bytes from the place on are at fault.
+fn marked(code: u64) -> usize {
+    match code {
+        5..=7 => 2,
+        17 => 3,
+        _ => 1,
+    }
+}
+
+/// The bytes with their places, and marks below those at fault. A byte that is
+/// missing is marked where it would stand.
+fn dump(out: &mut Out, bytes: &[u8], place: usize, length: usize) {
+    let last = bytes.len().max(place + 1).div_ceil(ROW);
+    let (first, last) = if bytes.len() <= WHOLE {
+        (0, last)
+    } else {
+        ((place / ROW).saturating_sub(NEAR), (place / ROW + NEAR + 1).min(last))
+    };
+    if first > 0 {
+        out.line("       ..");
+    }
+    for row in first..last {
+        let places = row * ROW..(row + 1) * ROW;
+        let cell = |at: usize| bytes.get(at).map_or("  ".to_string(), |byte| format!("{byte:02X}"));
+        let at_fault = |at: usize| (place..place + length).contains(&at);
+        let cells = places.clone().map(|at| {
+            let cell = cell(at);
+            if at_fault(at) {
+                out.paint(Colour::Bad, &cell)
+            } else {
+                cell
+            }
+        });
+        let line: Vec<String> = cells.collect();
+        let line = format!("{:>7}  {}", row * ROW, line.join(" "));
+        let marks: Vec<&str> = places.map(|at| if at_fault(at) { "^^" } else { "  " }).collect();
+        let marks = format!("{:>7}  {}", "", marks.join(" "));
+        out.line(line.trim_end());
+        if !marks.trim_end().is_empty() {
+            out.line(marks.trim_end());
+        }
+    }
+    if last * ROW < bytes.len() {
+        out.line("       ..");
+    }
+}
+
+/// The answer's own numbers.
+pub fn numbers(out: &mut Out, answer: Answer) {
+    let Answer { code, kind, record, place } = answer;
+    out.line(&format!("code {code}, kind {kind}, record {record}, place {place}"));
+}
+
+/// A plain dump, as refusals that fit a screen are shown.
+pub fn plain_dump(out: &mut Out, bytes: &[u8]) {
+    for (row, part) in bytes.chunks(ROW).enumerate() {
+        out.line(&format!("{:>7}  {}", row * ROW, words::hex(part)));
+    }
+}
+
+/// The refusal for a script.
+pub fn object(object: Object, answer: Answer, parts: &[&Taken]) -> Object {
+    let object = object.text("result", "refused").answer(answer);
+    let object = object.text("words", words::of_code(answer.code));
+    match at_fault(answer, parts) {
+        Some(taken) => object.text("taken_for", taken.form.name()),
+        None => object,
+    }
+}
+
+/// A refused claim is a no; a refused function is no answer at all.
+pub fn status(answer: Answer) -> Status {
+    if answer.record == 3 {
+        Status::No
+    } else {
+        Status::Trouble
+    }
+}

@@ -1,0 +1,60 @@
+//! `zap help`: the table of verbs, a verb's page, the table of codes.
+
+use super::{find, overview, Verb, VERBS};
+use crate::args::Args;
+use crate::json::Object;
+use crate::output::{Out, Trouble};
+use crate::words::{Code, CODES};
+use crate::Status;
+
+pub const VERB: Verb = Verb {
+    name: "help",
+    usage: "[VERB | codes]",
+    about: "tells how a verb is used, or what each code of a refusal means",
+    options: &[],
+    more: "Without a word it lists the verbs. `zap help codes` has every code of a refusal, and what the place beside it\ntells.\n",
+    run,
+};
+
+/// What holds for every verb.
+pub const GROUNDS: &str = "
+A function or a claim is a file of its bytes, or of the bytes in hex: white space, commas, 0x and # comments are
+fine. `-` is standard input. docs/FORMATS.md tells how functions and claims are written.
+
+Every verb takes --json: one object a line. There is colour on a terminal alone, and none if NO_COLOR is set.
+
+Exit status: 0 a match, an accepted claim; 1 no match, a refused claim; 2 a function that is refused, wrong use, a
+file that cannot be read or written.
+";
+
+fn run(args: &Args, out: &mut Out) -> Result<Status, Trouble> {
+    match &args.files[..] {
+        [] if args.json() => verbs(out),
+        [] => out.text(&overview()),
+        [word] if word == "codes" => codes(args.json(), out),
+        [word] => out.text(&find(&word.to_string_lossy())?.page()),
+        _ => return VERB.misused(),
+    }
+    Ok(Status::Yes)
+}
+
+fn verbs(out: &mut Out) {
+    for Verb { name, usage, about, .. } in VERBS {
+        let object = Object::new("help").text("name", name);
+        out.line(&object.text("usage", usage).text("about", about).end());
+    }
+}
+
+fn codes(json: bool, out: &mut Out) {
+    if !json {
+        out.line("code  given when, and the place beside it");
+    }
+    for Code { number, words, place } in CODES {
+        if json {
+            let object = Object::new("help").raw("code", &number.to_string());
+            out.line(&object.text("words", words).text("place", place).end());
+        } else {
+            out.line(&format!("{number:>4}  {words}: {place}"));
+        }
+    }
+}
