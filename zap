@@ -49,7 +49,8 @@ prove() {
     set -- $(archived)
     crates=$(($# - 1)) began=$(date +%s) past=0
     say "the command's $crates crates are proved and built first; this takes some minutes the first time"
-    { rt staticlib host || echo 'rt failed'; } 2>&1 | tee "$log" | while IFS= read -r line; do
+    rm -f "$built/proved"
+    { rt staticlib host </dev/null 2>&1 && : >"$built/proved"; } | tee "$log" | while IFS= read -r line; do
         case $line in
         'rt: '*' proved ('*) line=${line#rt: } ;;
         'rt: target/staticlib/'*) line='host proved and its archive written' ;;
@@ -61,12 +62,12 @@ prove() {
         *) say "$line, $past of $crates, $(($(date +%s) - began)) s so far" ;;
         esac
     done
-    ! grep -q '^rt failed$' "$log"
+    [ -e "$built/proved" ]
 }
 
 compile() {
     say 'compiling the command'
-    cargo build --release --offline --manifest-path cli/Cargo.toml --target-dir "$built" >"$log" 2>&1
+    cargo build --release --offline --manifest-path cli/Cargo.toml --target-dir "$built" </dev/null >"$log" 2>&1
 }
 
 archive_fresh() {

@@ -1,6 +1,7 @@
 //! The words of a command line: options, and files.
 
-use std::ffi::OsString;
+use std::ffi::{OsStr, OsString};
+use std::os::unix::ffi::OsStrExt;
 
 use crate::output::{trouble, Trouble};
 use crate::words;
@@ -37,7 +38,7 @@ impl Args {
             } else if text == "-" || !text.starts_with('-') {
                 args.files.push(word.clone());
             } else {
-                args.take(verb, options, &text, &mut words)?;
+                args.take(verb, options, word, &mut words)?;
             }
         }
         if args.files.iter().filter(|file| *file == "-").count() > 1 {
@@ -50,13 +51,16 @@ impl Args {
         &mut self,
         verb: &str,
         options: &[&Opt],
-        text: &str,
+        word: &OsStr,
         rest: &mut impl Iterator<Item = &'a OsString>,
     ) -> Result<(), Trouble> {
-        let (name, joined) = match text.split_once('=') {
-            Some((name, value)) if name.starts_with("--") => (name, Some(OsString::from(value))),
-            _ => (text, None),
+        // A value may be the name of a file, which need not be text.
+        let bytes = word.as_bytes();
+        let (name, joined) = match bytes.iter().position(|&c| c == b'=') {
+            Some(at) if bytes.starts_with(b"--") => (&bytes[..at], Some(&bytes[at + 1..])),
+            _ => (bytes, None),
         };
+        let name = &*String::from_utf8_lossy(name);
         let found = options.iter().find(|option| option.long == name || option.short == Some(name));
         let Some(option) = found else {
             let known = options.iter().map(|option| option.long);
@@ -72,7 +76,7 @@ impl Args {
         let value = match (option.value, joined) {
             (None, None) => OsString::new(),
             (None, Some(_)) => return trouble(format!("{name} takes no value")),
-            (Some(_), Some(value)) => value,
+            (Some(_), Some(value)) => OsStr::from_bytes(value).to_os_string(),
             (Some(value), None) => match rest.next() {
                 Some(word) => word.clone(),
                 None => return trouble(format!("{name} wants a value: {name} {value}")),

@@ -5,6 +5,7 @@
 //! column. Bytes that are no text are binary, and the archive says what is wrong with
 //! them.
 
+use std::borrow::Cow;
 use std::ffi::{OsStr, OsString};
 use std::fs;
 use std::io::{self, Read};
@@ -55,49 +56,82 @@ pub fn name_of(path: &OsStr) -> String {
     }
 }
 
-/// The bytes of a file, or of standard input for `-`.
+/// A file taken for what it is; `-` is standard input.
 pub fn take(path: &OsStr) -> Result<Taken, Trouble> {
-    let name = name_of(path);
+    taken(name_of(path), read(path)?)
+}
+
+fn read(path: &OsStr) -> Result<Vec<u8>, Trouble> {
     let read = if path == "-" {
         let mut bytes = vec![];
         io::stdin().lock().read_to_end(&mut bytes).map(|_| bytes)
     } else if Path::new(path).is_dir() {
-        return trouble(format!("{name} is a folder, and one file is wanted here"));
+        return trouble(format!("{} is a folder, and one file is wanted here", name_of(path)));
     } else {
         fs::read(path)
     };
-    let bytes = match read {
-        Ok(bytes) => bytes,
-        Err(why) => return trouble(format!("{name} cannot be read: {}", reason(&why))),
-    };
+    read.map_err(|why| unread(path, &why))
+}
+
+fn unread(path: &OsStr, why: &io::Error) -> Trouble {
+    Trouble(format!("{} cannot be read: {}", name_of(path), reason(why)))
+}
+
+fn taken(name: String, bytes: Vec<u8>) -> Result<Taken, Trouble> {
+    let binary = |name, bytes| Ok(Taken { name, form: Form::Binary, bytes });
     if bytes.is_empty() {
         return Ok(Taken { name, form: Form::Empty, bytes });
     }
     if marked_as(&bytes).is_some() {
-        return Ok(Taken { name, form: Form::Binary, bytes });
+        return binary(name, bytes);
     }
-    match from_text(&bytes) {
+    let Some(text) = text_of(&bytes) else { return binary(name, bytes) };
+    match from_hex(&text) {
         Ok(bytes) => Ok(Taken { name, form: Form::Hex, bytes }),
-        Err(_) if !is_text(&bytes) => Ok(Taken { name, form: Form::Binary, bytes }),
-        Err(fault) => trouble(format!(
-            "{name}: taken for hex, as it is text without a mark at its start; line {}, column {}: {}",
-            fault.line, fault.column, fault.what
+        // A comment may be written in any way, the rest of a text not.
+        Err(_) if std::str::from_utf8(&text).is_err() => {
+            drop(text);
+            binary(name, bytes)
+        }
+        Err(Fault { line, column, what }) => trouble(format!(
+            "{name}: taken for hex, as it is text without a mark at its start; line {line}, column {column}: {what}"
         )),
     }
 }
 
 /// The marks, and what begins with them.
 const MARKS: [(&[u8], &str); 3] =
-    [(b"FN", "a function"), (b"MT", "a match claim"), (b"RF", "a refusal claim")];
+    [(b"FN", FUNCTION), (b"MT", "a match claim"), (b"RF", "a refusal claim")];
+const FUNCTION: &str = "a function";
 
 /// What bytes are by their mark.
 pub fn marked_as(bytes: &[u8]) -> Option<&'static str> {
     MARKS.iter().find(|(mark, _)| bytes.starts_with(mark)).map(|(_, what)| *what)
 }
 
-fn is_text(bytes: &[u8]) -> bool {
-    let control = |c: char| c.is_control() && !c.is_ascii_whitespace();
-    std::str::from_utf8(bytes).is_ok_and(|text| !text.chars().any(control))
+/// Bytes as text without its byte order mark, if they are text: no control character
+/// but white space.
+fn text_of(bytes: &[u8]) -> Option<Cow<'_, [u8]>> {
+    let wide = |of: fn([u8; 2]) -> u16| {
+        if bytes.len() % 2 == 1 {
+            return None;
+        }
+        let units = bytes[2..].chunks_exact(2).map(|pair| of([pair[0], pair[1]]));
+        let text: Result<String, _> = char::decode_utf16(units).collect();
+        text.ok().map(|text| Cow::Owned(text.into_bytes()))
+    };
+    let text = match bytes {
+        [0xEF, 0xBB, 0xBF, rest @ ..] => Cow::Borrowed(rest),
+        [0xFF, 0xFE, ..] => wide(u16::from_le_bytes)?,
+        [0xFE, 0xFF, ..] => wide(u16::from_be_bytes)?,
+        _ => Cow::Borrowed(bytes),
+    };
+    let control = |&c: &u8| c.is_ascii_control() && !white(c);
+    (!text.iter().any(control)).then_some(text)
+}
+
+fn white(c: u8) -> bool {
+    c.is_ascii_whitespace() || c == 0x0B
 }
 
 /// Where hex text is at fault, from 1.
@@ -106,21 +140,6 @@ pub struct Fault {
     pub line: usize,
     pub column: usize,
     pub what: String,
-}
-
-/// Hex text with its byte order mark, if it has one.
-fn from_text(bytes: &[u8]) -> Result<Vec<u8>, Fault> {
-    let wide = |of: fn([u8; 2]) -> u16| {
-        let units = bytes[2..].chunks_exact(2).map(|pair| of([pair[0], pair[1]]));
-        char::decode_utf16(units).map(|c| c.unwrap_or(char::REPLACEMENT_CHARACTER)).collect()
-    };
-    let text: String = match bytes {
-        [0xEF, 0xBB, 0xBF, rest @ ..] => return from_hex(rest),
-        [0xFF, 0xFE, ..] => wide(u16::from_le_bytes),
-        [0xFE, 0xFF, ..] => wide(u16::from_be_bytes),
-        _ => return from_hex(bytes),
-    };
-    from_hex(text.as_bytes())
 }
 
 /// Groups of hex digits, apart by white space or commas, each with or without `0x`;
@@ -140,7 +159,7 @@ fn from_hex(text: &[u8]) -> Result<Vec<u8>, Fault> {
 }
 
 fn apart(c: u8) -> bool {
-    c.is_ascii_whitespace() || c == 0x0B || c == b','
+    white(c) || c == b','
 }
 
 /// The place from `at` on of the first byte that passes, or the end.
@@ -215,8 +234,17 @@ fn cut(digits: &str) -> String {
     }
 }
 
+// ---- Several files ----
+
+/// A file to be taken for a function.
+pub struct Source {
+    pub path: OsString,
+    /// It was not named, but lies in a folder that was.
+    of_folder: bool,
+}
+
 /// Files as named, and each folder's files by name, in its place. Of a folder, hidden
-/// files are left out.
+/// files and what is no plain file are left out: to read a pipe could take for ever.
 pub fn spread(paths: &[OsString]) -> Result<Vec<Source>, Trouble> {
     let mut sources = vec![];
     for path in paths {
@@ -224,42 +252,54 @@ pub fn spread(paths: &[OsString]) -> Result<Vec<Source>, Trouble> {
             sources.push(Source { path: path.clone(), of_folder: false });
             continue;
         }
-        let failed = |why: io::Error| {
-            Trouble(format!("{} cannot be read: {}", path.to_string_lossy(), reason(&why)))
-        };
-        let mut inside = vec![];
-        for entry in fs::read_dir(path).map_err(failed)? {
-            let file = entry.map_err(failed)?.path();
-            let hidden =
-                file.file_name().is_some_and(|name| name.as_encoded_bytes().starts_with(b"."));
-            if !hidden && !file.is_dir() {
-                inside.push(file);
-            }
+        let inside = inside(path).map_err(|why| unread(path, &why))?;
+        if inside.is_empty() {
+            return trouble(format!("there is no file in the folder {}", name_of(path)));
         }
-        inside.sort();
-        sources
-            .extend(inside.into_iter().map(|file| Source { path: file.into(), of_folder: true }));
+        sources.extend(inside.into_iter().map(|path| Source { path, of_folder: true }));
     }
     Ok(sources)
 }
 
-pub struct Source {
-    pub path: OsString,
-    /// It was not named, but lies in a folder that was.
-    pub of_folder: bool,
+fn inside(folder: &OsStr) -> io::Result<Vec<OsString>> {
+    let mut files = vec![];
+    for entry in fs::read_dir(folder)? {
+        let entry = entry?;
+        let hidden = entry.file_name().as_encoded_bytes().starts_with(b".");
+        let plain = fs::metadata(entry.path()).map_or(true, |found| found.is_file());
+        if !hidden && plain {
+            files.push(entry.path().into_os_string());
+        }
+    }
+    files.sort();
+    Ok(files)
 }
 
-/// A file of a folder that is no function: a claim, or text that is not hex, unless
-/// its name says that it is a function. It is passed over, with this for a reason.
-pub fn no_function(source: &Source, taken: &Result<Taken, Trouble>) -> Option<&'static str> {
-    if !source.of_folder {
-        return None;
-    }
-    let named = Path::new(&source.path).extension().is_some_and(|end| end == "hex" || end == "fn");
-    match taken {
-        Ok(taken) => marked_as(&taken.bytes).filter(|what| what.ends_with("claim")),
-        Err(_) if !named && fs::metadata(&source.path).is_ok() => Some("other text"),
-        _ => None,
+/// What came of a source.
+pub enum Came {
+    Function(Taken),
+    Unread(Trouble),
+    /// It lies in a folder and is no function, for this reason: a claim, or text that
+    /// is not hex, unless its name says that it is a function.
+    PassedOver(&'static str),
+}
+
+impl Source {
+    pub fn take(&self) -> Came {
+        let bytes = match read(&self.path) {
+            Ok(bytes) => bytes,
+            Err(why) => return Came::Unread(why),
+        };
+        let named =
+            Path::new(&self.path).extension().is_some_and(|end| end == "hex" || end == "fn");
+        match taken(name_of(&self.path), bytes) {
+            Ok(taken) => match marked_as(&taken.bytes) {
+                Some(what) if self.of_folder && what != FUNCTION => Came::PassedOver(what),
+                _ => Came::Function(taken),
+            },
+            Err(_) if self.of_folder && !named => Came::PassedOver("other text"),
+            Err(why) => Came::Unread(why),
+        }
     }
 }
 
@@ -268,7 +308,8 @@ mod tests {
     use super::*;
 
     fn hex(text: &str) -> Result<Vec<u8>, (usize, usize)> {
-        from_text(text.as_bytes()).map_err(|fault| (fault.line, fault.column))
+        let text = text_of(text.as_bytes()).expect("text");
+        from_hex(&text).map_err(|fault| (fault.line, fault.column))
     }
 
     #[test]
@@ -289,8 +330,10 @@ mod tests {
             text.encode_utf16().flat_map(of).collect()
         };
         let text = "\u{feff}46 4E 02 AB";
-        assert_eq!(from_text(&wide(text, u16::to_le_bytes)).ok(), bytes.clone().ok());
-        assert_eq!(from_text(&wide(text, u16::to_be_bytes)).ok(), bytes.ok());
+        for of in [u16::to_le_bytes, u16::to_be_bytes] {
+            let text = wide(text, of);
+            assert_eq!(from_hex(&text_of(&text).expect("text")).ok(), bytes.clone().ok());
+        }
         assert_eq!(hex(""), Ok(vec![]));
         assert_eq!(hex("# nothing"), Ok(vec![]));
     }
@@ -307,9 +350,15 @@ mod tests {
     }
 
     #[test]
-    fn text_or_not() {
-        assert!(is_text("46 4G\r\n\tä".as_bytes()));
-        assert!(!is_text(b"46 \x00"));
-        assert!(!is_text(b"\xFF\xA0"));
+    fn what_bytes_are_taken_for() {
+        let form = |bytes: &[u8]| taken(String::new(), bytes.to_vec()).map(|taken| taken.form).ok();
+        assert_eq!(form(b""), Some(Form::Empty));
+        assert_eq!(form(b"FN\x02"), Some(Form::Binary));
+        assert_eq!(form(b"46 4E # Gr\xF6\xDFe"), Some(Form::Hex));
+        assert_eq!(form(b"46 4E # \x02"), Some(Form::Binary));
+        assert_eq!(form(b"\xFF\xA0"), Some(Form::Binary));
+        assert_eq!(form(b"\xFF\xFE4\x006\x00"), Some(Form::Hex));
+        assert_eq!(form(b"\xFF\xFE\x00\xD8"), Some(Form::Binary));
+        assert_eq!(form("46 4G ä".as_bytes()), None);
     }
 }

@@ -59,8 +59,8 @@ fn run(words: &[OsString]) -> Status {
     let ended = verbs::run(&name.to_string_lossy(), rest, &mut out);
     let status = ended.unwrap_or_else(|Trouble(why)| {
         if json {
-            let object = Object::new(&name.to_string_lossy()).text("error", &why);
-            out.line(&object.end());
+            let object = Object::new(&name.to_string_lossy()).text("result", "trouble");
+            out.line(&object.text("error", &why).end());
         }
         out.flush();
         output::complain(&why);

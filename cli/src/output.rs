@@ -106,34 +106,43 @@ pub fn write_whole(
     path: &OsStr,
     fill: impl FnOnce(&mut dyn Write) -> io::Result<()>,
 ) -> Result<(), Trouble> {
-    let named = |why: io::Error| {
+    written(&led(path), fill).map_err(|why| {
         Trouble(format!("{} cannot be written: {}", path.to_string_lossy(), reason(&why)))
-    };
-    // A link stays a link: what it leads to is replaced.
-    let path = fs::canonicalize(path).unwrap_or_else(|_| PathBuf::from(path));
-    match fs::metadata(&path) {
-        Ok(found) if found.is_dir() => Err(named(io::Error::from(ErrorKind::IsADirectory))),
-        Ok(found) if !found.is_file() => {
-            let file = OpenOptions::new().write(true).open(&path).map_err(named)?;
-            filled(file, fill).map(drop).map_err(named)
-        }
-        found => {
-            let beside = beside(&path);
-            let written = OpenOptions::new().write(true).create_new(true).open(&beside);
-            let written = written.and_then(|file| {
-                let file = filled(file, fill)?;
-                if let Ok(found) = found {
-                    file.set_permissions(found.permissions())?;
-                }
-                file.sync_all()?;
-                fs::rename(&beside, &path)
-            });
-            written.map_err(|why| {
-                let _ = fs::remove_file(&beside);
-                named(why)
-            })
-        }
+    })
+}
+
+/// Where a path leads through links, also to a file that is not there yet: a link
+/// stays a link, and what it leads to is replaced.
+fn led(path: &OsStr) -> PathBuf {
+    const MOST: usize = 40;
+    let mut path = PathBuf::from(path);
+    for _ in 0..MOST {
+        let Ok(to) = fs::read_link(&path) else { break };
+        path = path.with_file_name("").join(to);
     }
+    path
+}
+
+fn written(path: &Path, fill: impl FnOnce(&mut dyn Write) -> io::Result<()>) -> io::Result<()> {
+    let before = fs::metadata(path);
+    match &before {
+        Ok(found) if found.is_dir() => return Err(ErrorKind::IsADirectory.into()),
+        Ok(found) if !found.is_file() => {
+            return filled(OpenOptions::new().write(true).open(path)?, fill).map(drop);
+        }
+        _ => (),
+    }
+    let (beside, file) = create_beside(path)?;
+    let renamed = filled(file, fill).and_then(|file| {
+        if let Ok(found) = before {
+            file.set_permissions(found.permissions())?;
+        }
+        file.sync_all()?;
+        fs::rename(&beside, path)
+    });
+    renamed.inspect_err(|_| {
+        let _ = fs::remove_file(&beside);
+    })
 }
 
 fn filled(file: File, fill: impl FnOnce(&mut dyn Write) -> io::Result<()>) -> io::Result<File> {
@@ -142,9 +151,15 @@ fn filled(file: File, fill: impl FnOnce(&mut dyn Write) -> io::Result<()>) -> io
     sink.into_inner().map_err(|why| why.into_error())
 }
 
-fn beside(path: &Path) -> PathBuf {
-    let mut name = std::ffi::OsString::from(".");
-    name.push(path.file_name().unwrap_or_default());
-    name.push(format!(".{}.part", process::id()));
-    path.with_file_name(name)
+/// A new file in the same folder. One of its name may be left from a run that was
+/// killed, and is not ours to touch.
+fn create_beside(path: &Path) -> io::Result<(PathBuf, File)> {
+    let mut number = 0;
+    loop {
+        let beside = path.with_file_name(format!(".zap.{}.{number}.part", process::id()));
+        match OpenOptions::new().write(true).create_new(true).open(&beside) {
+            Err(why) if why.kind() == ErrorKind::AlreadyExists => number += 1,
+            made => return made.map(|file| (beside, file)),
+        }
+    }
 }

@@ -29,20 +29,24 @@ file that cannot be read or written.
 
 fn run(args: &Args, out: &mut Out) -> Result<Status, Trouble> {
     match &args.files[..] {
-        [] if args.json() => verbs(out),
+        [] if args.json() => VERBS.iter().for_each(|verb| out.line(&object(verb).end())),
         [] => out.text(&overview()),
         [word] if word == "codes" => codes(args.json(), out),
-        [word] => out.text(&find(&word.to_string_lossy())?.page()),
+        [word] => {
+            let verb = find(&word.to_string_lossy())?;
+            match args.json() {
+                true => out.line(&object(verb).text("page", &verb.page()).end()),
+                false => out.text(&verb.page()),
+            }
+        }
         _ => return VERB.misused(),
     }
     Ok(Status::Yes)
 }
 
-fn verbs(out: &mut Out) {
-    for Verb { name, usage, about, .. } in VERBS {
-        let object = Object::new("help").text("name", name);
-        out.line(&object.text("usage", usage).text("about", about).end());
-    }
+fn object(Verb { name, usage, about, .. }: &Verb) -> Object {
+    let object = Object::new(VERB.name).text("result", "verb").text("name", name);
+    object.text("usage", usage).text("about", about)
 }
 
 fn codes(json: bool, out: &mut Out) {
@@ -51,7 +55,8 @@ fn codes(json: bool, out: &mut Out) {
     }
     for Code { number, words, place } in CODES {
         if json {
-            let object = Object::new("help").raw("code", &number.to_string());
+            let object = Object::new(VERB.name).text("result", "code");
+            let object = object.raw("code", &number.to_string());
             out.line(&object.text("words", words).text("place", place).end());
         } else {
             out.line(&format!("{number:>4}  {words}: {place}"));

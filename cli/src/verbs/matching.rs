@@ -10,7 +10,7 @@ use super::{indented, Verb};
 use crate::args::{Args, Opt};
 use crate::claim::{measure, Choice, Wiring};
 use crate::function::Function;
-use crate::input::{self, Source, Taken};
+use crate::input::{self, Came, Source, Taken};
 use crate::json::Object;
 use crate::output::{trouble, write_whole, Colour, Out, Trouble};
 use crate::words::{count, hex, number};
@@ -97,7 +97,7 @@ fn one(args: &Args, f: &Taken, g: &OsString, out: &mut Out) -> Result<Status, Tr
             _ => refusal::object(object, answer, &parts),
         };
         let object = match &kept {
-            Some(file) => object.text("file", file),
+            Some(file) => object.text("claim", file),
             None => object,
         };
         out.line(&object.end());
@@ -182,7 +182,7 @@ fn claimed(object: Object, answer: Answer, claim: &[u8]) -> Object {
         object = object.list("wiring", wiring.choices.iter().enumerate().map(choice));
     }
     if claim.len() <= SCREEN {
-        object = object.text("claim", &hex(claim));
+        object = object.text("bytes", &hex(claim));
     }
     object.number("length", claim.len())
 }
@@ -201,9 +201,6 @@ enum Outcome {
 
 fn several(args: &Args, f: &Taken, others: &[OsString], out: &mut Out) -> Result<Status, Trouble> {
     let sources = input::spread(others)?;
-    if sources.is_empty() {
-        return trouble("there is no function to match against: no file in the folder");
-    }
     // f's own fault is told once, and not for each g.
     let (answer, function) = Function::read(&f.bytes);
     if function.is_none() {
@@ -235,13 +232,10 @@ fn several(args: &Args, f: &Taken, others: &[OsString], out: &mut Out) -> Result
 }
 
 fn outcome(f: &Taken, source: &Source, buffer: &mut [u8]) -> Outcome {
-    let taken = input::take(&source.path);
-    if let Some(why) = input::no_function(source, &taken) {
-        return Outcome::PassedOver(why);
-    }
-    let g = match taken {
-        Ok(g) => g,
-        Err(Trouble(why)) => return Outcome::Unread(why),
+    let g = match source.take() {
+        Came::Function(g) => g,
+        Came::Unread(Trouble(why)) => return Outcome::Unread(why),
+        Came::PassedOver(why) => return Outcome::PassedOver(why),
     };
     let answer = find(&f.bytes, &g.bytes, buffer);
     match (answer.code, answer.kind) {
@@ -281,7 +275,7 @@ fn object(f: &Taken, name: &str, outcome: Outcome) -> Object {
             let object =
                 object.text("result", "no match").answer(answer).number("n", claim[2] as usize);
             let object = match claim.len() {
-                0..=SCREEN => object.text("claim", &hex(&claim)),
+                0..=SCREEN => object.text("bytes", &hex(&claim)),
                 _ => object,
             };
             object.raw("length", &answer.place.to_string())

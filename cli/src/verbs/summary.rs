@@ -3,7 +3,7 @@
 use super::Verb;
 use crate::args::Args;
 use crate::function::Function;
-use crate::input::{self, Source, Taken};
+use crate::input::{self, Came, Source, Taken};
 use crate::json::Object;
 use crate::output::{complain, Out, Trouble};
 use crate::words::count;
@@ -31,10 +31,11 @@ fn run(args: &Args, out: &mut Out) -> Result<Status, Trouble> {
     }
     let mut status = Status::Yes;
     for source in &sources {
-        let taken = input::take(&source.path);
-        if input::no_function(source, &taken).is_some() {
-            continue;
-        }
+        let taken = match source.take() {
+            Came::Function(taken) => Ok(taken),
+            Came::Unread(why) => Err(why),
+            Came::PassedOver(_) => continue,
+        };
         status = status.max(one(args.json(), table, source, taken, out));
     }
     Ok(status)

@@ -1,0 +1,253 @@
+//! Files that are not what they should be, or cannot be read.
+
+use std::fs::{self, File};
+use std::os::unix::fs::symlink;
+
+use zap_tests::cases::{CONJ, WIRE};
+use zap_tests::command::{command, repository, Folder, Ran};
+use zap_tests::random::Random;
+use zap_tests::reference::answer::Answer;
+use zap_tests::reference::programs::hex;
+
+use crate::ways::{numbers_in_json, utf_16};
+
+/// Wherever one file is wanted, by its verb and words; F is the one at fault.
+const ONE_WANTED: [&str; 8] = [
+    "show F",
+    "match F g",
+    "check F g c",
+    "check g F c",
+    "check g g F",
+    "explain F g c",
+    "explain g F c",
+    "explain g g F",
+];
+
+/// Where a folder would stand for its files.
+const ANY_NUMBER: [&str; 2] = ["summary F", "match g F"];
+
+pub fn quoted(text: &str) -> String {
+    format!("\"{}\"", text.replace('\\', "\\\\").replace('"', "\\\""))
+}
+
+/// There is no answer, for a reason that is told in a line; with --json in an object.
+fn expect_trouble(folder: &Folder, places: &[&str], file: &str, why: impl Fn(&str) -> bool) {
+    folder.write("g", WIRE);
+    folder.write("c", "4D 54 01 00 00");
+    for words in places {
+        let words: Vec<&str> =
+            words.split(' ').map(|word| if word == "F" { file } else { word }).collect();
+        let run = |more: &[&str]| {
+            Ran::of(command().current_dir(folder.path()).args(&words).args(more), b"")
+        };
+        let ran = run(&[]);
+        let line = ran.err.strip_prefix("zap: ").and_then(|line| line.strip_suffix('\n'));
+        let line = line.unwrap_or_else(|| panic!("{words:?}: {ran:?}"));
+        assert!(!line.contains('\n') && why(line), "{words:?}: {line}");
+        assert_eq!((ran.out.as_str(), ran.status), ("", 2), "{words:?}");
+
+        let json = run(&["--json"]);
+        let (start, end) =
+            (format!("{{\"verb\":\"{}\",", words[0]), format!("\"error\":{}}}\n", quoted(line)));
+        assert!(json.out.starts_with(&start) && json.out.ends_with(&end), "{words:?}: {json:?}");
+        assert_eq!((json.out.lines().count(), json.status), (1, 2), "{words:?}");
+    }
+}
+
+fn everywhere() -> Vec<&'static str> {
+    [&ONE_WANTED[..], &ANY_NUMBER].concat()
+}
+
+#[test]
+fn text_that_is_no_hex() {
+    let cases = [
+        ("46 4G", 1, 5, "'G'"),
+        ("46 4E\n\n 02 zz", 3, 5, "'z'"),
+        ("46 4E\r\n02\tx1", 2, 4, "'x'"),
+        ("46;4E", 1, 3, "';'"),
+        ("\"46\"", 1, 1, "'\"'"),
+        ("46 4E # fine\n# \u{e4}\u{f6}\n46 \u{e4}", 3, 4, "'\u{e4}'"),
+        ("46 \u{1F600}", 1, 4, "'\u{1F600}'"),
+        ("\u{feff}46 4\u{e9}", 1, 5, "'\u{e9}'"),
+        ("0xg", 1, 3, "'g'"),
+        ("46 4E 2 01", 1, 7, "2 "),
+        ("46 4E\n2", 2, 1, "2 "),
+        ("46 4E021 00", 1, 4, "4E021 "),
+        ("46,0x4E1", 1, 4, "0x4E1 "),
+        ("46 0x", 1, 4, "0x "),
+        ("46 0x\n4E", 1, 4, "0x "),
+        ("0x,46", 1, 1, "0x "),
+        ("0x#", 1, 1, "0x "),
+    ];
+    let folder = Folder::new();
+    for (text, line, column, what) in cases {
+        folder.write("f", text);
+        let place = format!("; line {line}, column {column}: {what}");
+        let told = |why: &str| why.starts_with("f: taken for hex") && why.contains(&place);
+        expect_trouble(&folder, &everywhere(), "f", told);
+        let piped = Ran::of(command().args(["summary", "-"]), text.as_bytes());
+        let told = piped.err.starts_with("zap: standard input: ") && piped.err.contains(&place);
+        assert!(told && piped.status == 2, "{text:?}: {piped:?}");
+    }
+    // A long group is not told whole.
+    folder.write("f", "4".repeat(100_001));
+    let told = |why: &str| why.contains("line 1, column 1: 4444") && why.len() < 300;
+    expect_trouble(&folder, &["summary F"], "f", told);
+}
+
+/// All that may stand between groups is text: it makes no file binary.
+#[test]
+fn white_space_is_text() {
+    let folder = Folder::new();
+    for blank in ["\t", "\x0B", "\x0C", "\r"] {
+        folder.write("f", format!("46{blank}4G"));
+        let told = |why: &str| why.contains("; line 1, column 5: 'G'");
+        expect_trouble(&folder, &["summary F"], "f", told);
+    }
+}
+
+/// A mistake in text that the command would read, were it not for the mistake.
+#[test]
+fn wide_text_that_is_no_hex() {
+    let folder = Folder::new();
+    for unit in [u16::to_le_bytes, u16::to_be_bytes] {
+        folder.write("f", utf_16("46 4E\r\n02 4G 01", unit));
+        let told = |why: &str| {
+            why.starts_with("f: taken for hex") && why.contains("; line 2, column 5: 'G'")
+        };
+        expect_trouble(&folder, &everywhere(), "f", told);
+    }
+}
+
+/// Half a unit of UTF-16 at the end: some byte has been lost, or came in by mistake.
+#[test]
+fn wide_text_of_an_odd_length_is_not_accepted() {
+    let folder = Folder::new();
+    for unit in [u16::to_le_bytes, u16::to_be_bytes] {
+        folder.write("f", [&utf_16(&hex(CONJ), unit)[..], &[0x30]].concat());
+        let ran = folder.zap("summary f");
+        assert_eq!(ran.status, 2, "{ran:?}");
+    }
+}
+
+/// A heading is a comment, and what follows is none.
+#[test]
+fn a_text_for_a_function() {
+    let readme = repository().join("README.md");
+    let text = fs::read_to_string(&readme).expect("it is there");
+    let is_prose = |line: &str| !line.trim().is_empty() && !line.starts_with('#');
+    let line = 1 + text.lines().position(is_prose).expect("some prose");
+    let name = readme.to_str().expect("text");
+    let start =
+        format!("{name}: taken for hex, as it is text without a mark at its start; line {line}, ");
+    expect_trouble(&Folder::new(), &everywhere(), name, |why| why.starts_with(&start));
+}
+
+/// Where the archive answers: the words that show it, and the same in an object. A
+/// refused function gives no answer, a refused claim is a no.
+fn expect_refusals(folder: &Folder, file: &str, [code, place]: [u64; 2], taken: &str, form: &str) {
+    folder.write("g", WIRE);
+    folder.write("c", "4D 54 01 00 00");
+    let cases = [
+        ("summary F", 1),
+        ("show F", 1),
+        ("match F g", 1),
+        ("match g F", 2),
+        ("check F g c", 1),
+        ("check g F c", 2),
+        ("check g g F", 3),
+        ("explain g g F", 3),
+    ];
+    for (words, record) in cases {
+        let words = words.replace('F', file);
+        let status = if record == 3 { 1 } else { 2 };
+        let ran = folder.zap(&words);
+        let told = ran.out.contains(taken) && ran.out.contains(&format!("(code {code})"));
+        assert!(told && ran.err.is_empty() && ran.status == status, "{words}: {ran:?}");
+        let json = folder.zap(&format!("{words} --json"));
+        let answer = format!(
+            "\"result\":\"refused\",{}",
+            numbers_in_json(Answer { code, kind: 0, record, place })
+        );
+        let form = format!("\"taken_for\":\"{form}\"");
+        let told = json.out.contains(&answer) && json.out.contains(&form);
+        let one = json.out.lines().count() == 1 && json.out.ends_with("}\n");
+        assert!(told && one && json.err.is_empty() && json.status == status, "{words}: {json:?}");
+    }
+}
+
+#[test]
+fn noise_is_binary() {
+    let folder = Folder::new();
+    let mut random = Random::new(63);
+    for start in [0x00, 0x01, 0x47, 0x7F, 0x80, 0xC3, 0xEF, 0xFE, 0xFF] {
+        let noise: Vec<u8> = (0..500).map(|_| random.byte()).collect();
+        folder.write("noise", [&[start, 0x00][..], &noise].concat());
+        expect_refusals(&folder, "noise", [2, 0], "noise, taken for binary", "binary");
+    }
+    // The mark makes it binary, whatever follows.
+    folder.write("letters", "FN or so");
+    let ran = folder.zap("summary letters");
+    let out = "letters, taken for binary: refused: n not 1 to 8 in a function record (code 3), at byte 2\n";
+    assert_eq!(ran, Ran { out: out.to_string(), err: String::new(), status: 2 });
+}
+
+#[test]
+fn nothing_at_all() {
+    let folder = Folder::new();
+    folder.write("empty", "");
+    expect_refusals(&folder, "empty", [1, 0], "empty, which is empty", "empty");
+    for (words, place) in [("summary -", 1), ("show -", 1), ("match - g", 1), ("check g - c", 2)] {
+        let ran = folder.zap(words);
+        let told =
+            ran.out.contains("standard input, which is empty") && ran.out.contains("(code 1)");
+        assert!(told && ran.status == 2, "{words}: {ran:?}");
+        let json = folder.zap(&format!("{words} --json"));
+        let numbers = numbers_in_json(Answer::refused(1, place, 0));
+        assert!(json.out.contains(&numbers) && json.status == 2, "{words}: {json:?}");
+    }
+    // Comments are text, but no bytes.
+    folder.write("comment", "# nothing\n");
+    expect_refusals(&folder, "comment", [1, 0], "comment, taken for hex", "hex");
+}
+
+#[test]
+fn files_that_cannot_be_read() {
+    let folder = Folder::new();
+    fs::create_dir(folder.path().join("sub")).expect("a new folder");
+    symlink("gone", folder.path().join("dangling")).expect("a new link");
+    symlink("circle", folder.path().join("circle")).expect("a new link");
+    let said = |name: &'static str, reason: &'static str| {
+        move |why: &str| why == format!("{name} cannot be read: {reason}")
+    };
+    let missing = "No such file or directory";
+    expect_trouble(&folder, &everywhere(), "missing", said("missing", missing));
+    expect_trouble(&folder, &everywhere(), "no/file", said("no/file", missing));
+    expect_trouble(&folder, &everywhere(), "g/file", said("g/file", "Not a directory"));
+    expect_trouble(&folder, &everywhere(), "dangling", said("dangling", missing));
+    let circle = "Too many levels of symbolic links";
+    expect_trouble(&folder, &everywhere(), "circle", said("circle", circle));
+    // It opens for whoever owns the process, and place 0 is never there.
+    let memory = said("/proc/self/mem", "Input/output error");
+    expect_trouble(&folder, &everywhere(), "/proc/self/mem", memory);
+    let is_folder = |why: &str| why.starts_with("sub is a folder");
+    expect_trouble(&folder, &ONE_WANTED, "sub", is_folder);
+}
+
+#[test]
+fn standard_input_that_cannot_be_read() {
+    let folder = Folder::new();
+    let run = |more: &[&str]| {
+        let input = File::open(folder.path()).expect("a folder opens");
+        let output = command().args(["show", "-"]).args(more).stdin(input).output().expect("run");
+        let text = |bytes| String::from_utf8(bytes).expect("text");
+        (text(output.stdout), text(output.stderr), output.status.code())
+    };
+    let why = "standard input cannot be read: Is a directory";
+    assert_eq!(run(&[]), (String::new(), format!("zap: {why}\n"), Some(2)));
+    let (out, _, status) = run(&["--json"]);
+    assert_eq!(
+        (out, status),
+        (format!("{{\"verb\":\"show\",\"result\":\"trouble\",\"error\":\"{why}\"}}\n"), Some(2))
+    );
+}

@@ -1,0 +1,276 @@
+//! What `zap show` and `zap explain` print, byte for byte, and the runs that the
+//! documents show.
+//!
+//! The texts in golden/ were written by hand from docs/FORMATS.md, in the command's
+//! layout. Beside each is said how its figures were worked out.
+
+use std::fs;
+use std::os::unix::fs::symlink;
+use std::path::Path;
+use std::process::Command;
+
+use zap_tests::command::{binary, repository, Folder, Ran};
+
+// ---- Golden texts ----
+
+const CONJ: &str = "46 4E 02 01 02 03 00 00 01 00 02";
+const DISJ: &str = "46 4E 02 02 01 01 00 02 00 00 03";
+const ODD: &str = "46 4E 02 02 02 01 02 02 01 03 00 00 03";
+const WIRE: &str = "46 4E 01 01 01 01 00 00 01";
+const CONJ_ODD: &str = "52 46 02 FF 01 00 01 01 00 00 01 00 00 01 00 01 \
+                        FF 01 00 01 01 00 00 01 00 01 01 00 00";
+
+/// Runs the command on these files, and compares what it prints with a golden text.
+fn expect(golden: &str, files: &[(&str, &str)], words: &str, status: i32) {
+    let folder = Folder::new();
+    for (name, content) in files {
+        folder.write(name, content);
+    }
+    let file = Path::new(env!("CARGO_MANIFEST_DIR")).join("golden").join(golden);
+    let out = fs::read_to_string(file).expect("a golden text");
+    assert_eq!(folder.zap(words), Ran { out, err: String::new(), status }, "{golden}: {words}");
+}
+
+/// Two functions and a claim in files of these names, explained.
+fn expect_explained(golden: &str, [f, g, claim]: [[&str; 2]; 3], more: &str, status: i32) {
+    let files = [f, g, claim].map(|[name, content]| (name, content));
+    let names = files.map(|(name, _)| name).join(" ");
+    expect(golden, &files, &format!("explain {names}{more}"), status);
+}
+
+/// By the table of section 1: on at 3 alone, off at 0, 1 and 2. A row is x1, a column
+/// x0, so row 0 has patterns 0 and 1, row 1 patterns 2 and 3.
+#[test]
+fn conj_shown() {
+    expect("show-conj.txt", &[("conj.hex", CONJ)], "show conj.hex", 0);
+}
+
+/// By section 2. While x2 is 0 it is x0: patterns 0 to 3 are 0 1 0 1. While x2 is 1 it is
+/// x1, but open at 5: patterns 4 to 7 are 0 - 1 1. In Gray order the columns are 0, 1, 3
+/// and 2, so rows 0 1 1 0 and 0 - 1 1. On are 1, 3, 6 and 7; off 0, 2 and 4.
+#[test]
+fn mux_open_shown() {
+    let mux_open = "46 4E 03 02 02 01 04 06 00 00 05 04 03";
+    expect("show-mux-open.txt", &[("mux-open.hex", mux_open)], "show mux-open.hex", 0);
+}
+
+/// One on cube, x0', which holds pattern 0; no off cube, so pattern 1 is open. One input
+/// goes along the columns, and the one row has no label.
+#[test]
+fn one_input_shown() {
+    expect("show-one-input.txt", &[("half.hex", "46 4E 01 01 00 00 01")], "show half.hex", 0);
+}
+
+/// On: x0·x3 and x2·x4', 8 patterns each, of which the 2 with x0·x2·x3·x4' are in both:
+/// 14. Off: x0'·x2', 8 patterns, and x0·x2'·x3'·x4, 2 others: 10. Open: 32 - 24. No cube
+/// names x1. Along the columns x2x1x0 are 000 001 011 010 with x2 = 0, where x0 is
+/// 0 1 1 0, and 110 111 101 100 with x2 = 1, where x0 is 0 1 1 0 too. The rows, x4x3:
+/// 00: x2 makes it on, else x0' makes it off, else open: 0 - - 0, 1 1 1 1;
+/// 01: as above, and x0 makes it on: 0 1 1 0, 1 1 1 1;
+/// 11: x0 makes it on, else x2' makes it off, else open: 0 1 1 0, - 1 1 -;
+/// 10: no on cube holds; x2' makes it off, by x0' or by the last cube: 0 0 0 0, - - - -.
+#[test]
+fn five_inputs_shown() {
+    let five = "46 4E 05 02 02 09 00 04 10 00 05 11 0C";
+    expect("show-five-inputs.txt", &[("five.hex", five)], "show five.hex", 0);
+}
+
+/// On: x0·x4, 64 patterns, and x1·x4'·x5, 32 others: 96. Off: x0'·x1', 64 patterns, and
+/// x3·x4'·x5'·x7, 16, of which 4 have x0'·x1' too: 76. Open: 256 - 172. No cube names x2
+/// or x6. In each four columns from the left, x1x0 are 00 01 11 10, then 10 11 01 00, and
+/// so on; x3 is 1 in the last eight. The rows, by x4 and x5 and then x7:
+/// x4 = 1: x0 makes it on, x0'·x1' off: 0 1 1 -, - 1 1 0, and the same again;
+/// x4 = 0, x5 = 1: x1 makes it on, x0'·x1' off: 0 - 1 1, 1 1 - 0, and again;
+/// both 0, x7 = 0: x0'·x1' alone, off: 0 - - -, - - - 0, and again;
+/// both 0, x7 = 1: the same, but off wherever x3 is 1, in the last eight.
+#[test]
+fn eight_inputs_shown() {
+    let eight = "46 4E 08 02 02 11 00 22 10 00 03 88 30";
+    expect("show-eight-inputs.txt", &[("eight.hex", eight)], "show eight.hex", 0);
+}
+
+/// Two inputs and six on cubes, of which the last, P = 04, names x2. It begins at
+/// 5 + 2·5 = 15, and its second byte is the first of the next line.
+#[test]
+fn a_refused_function_shown() {
+    let bad = "46 4E 02 06 00 01 00 01 00 01 00 01 00 01 00 04 00";
+    expect("show-refused.txt", &[("bad.hex", bad)], "show bad.hex", 2);
+}
+
+/// By the table of section 5: f is read at 3, 2, 1 and 0, is on at 3 alone, and q = 1
+/// asks the opposite of g.
+#[test]
+fn a_match_explained() {
+    let claim = "4D 54 02 01 10 11";
+    let files = [["conj.hex", CONJ], ["disj.hex", DISJ], ["claim.hex", claim]];
+    expect_explained("explain-match.txt", files, "", 0);
+}
+
+/// x0 is y0 inverted, so f is read at 1 where g is at 0, and at 0 where g is at 1. The
+/// wire is on at 1 and off at 0, and q = 0 asks the same of g: twice it is the other.
+#[test]
+fn a_disagreement_explained() {
+    let claim = "4D 54 01 00 10";
+    let files = [["wire.hex", WIRE], ["wire.hex", WIRE], ["claim.hex", claim]];
+    expect_explained("explain-disagreement.txt", files, "", 1);
+}
+
+/// Bytes 4 and 5 are both y0 inverted; the second is at fault.
+#[test]
+fn an_input_used_twice_explained() {
+    let claim = "4D 54 02 01 10 10";
+    let files = [["conj.hex", CONJ], ["disj.hex", DISJ], ["claim.hex", claim]];
+    expect_explained("explain-used-twice.txt", files, "", 1);
+}
+
+/// By the table of section 6, whose y0 and y1 are x0 and x1 of g here: its on cubes are
+/// x0·x1' and x0'·x1, its off cubes x0·x1 and x0'·x1'. Each closing takes x0' of f, of
+/// which nothing is left to place. There are 2·2!·4 = 16 wirings. Each tree is a split
+/// and four closings at depth 1, which depth 0 does not show, and depth 2 adds nothing.
+#[test]
+fn a_refusal_explained() {
+    let files = [["conj.hex", CONJ], ["odd.hex", ODD], ["claim.hex", CONJ_ODD]];
+    expect_explained("explain-refusal-depth-0.txt", files, " --depth 0", 0);
+    for more in ["", " --depth 1", " --depth 2", " --depth 9"] {
+        expect_explained("explain-refusal.txt", files, more, 0);
+    }
+}
+
+/// The same with 02 at byte 13: there the fourth node of depth 1 begins, that for y1
+/// inverted, and 02 begins none. Three closings stand before it, and the second tree is
+/// not come to. Byte 13 is the fourteenth of the first line.
+#[test]
+fn a_bad_node_explained() {
+    let (before, after) = CONJ_ODD.split_at(13 * 3);
+    let bad = format!("{before}02{}", &after[2..]);
+    let files = [["conj.hex", CONJ], ["odd.hex", ODD], ["claim.hex", &bad]];
+    expect_explained("explain-bad-node.txt", files, "", 1);
+}
+
+/// f is x1·x2, off for x1' and for x2'; g is its input 0. At the root every cube has a
+/// literal and none is placed: a split. If x0 takes y0, g has no literal left on a free
+/// input, and the first pair is dead, on cube 0 of f with cube 0 of g. Otherwise there
+/// is a split over x1, with q = 0 for these choices:
+/// y0: on cube 0 of f and off cube 0 of g are kept apart, as x1 becomes y0; so are off
+///     cube 0 and on cube 0; but off cube 1, x2', has no literal of g left to meet;
+/// y0 inverted: x1 becomes y0', so that on cube 0 and off cube 0 stay together;
+/// another: on cube 0 has x2 to place yet, and y0 is free; off cube 0, x1', is placed.
+/// With q = 1 on goes with on and off with off, so y0 and y0 inverted change places.
+/// Each tree has a split at depth 0, 2 closings and 4 splits at depth 1, 16 closings at
+/// depth 2: 18·3 + 5 = 59 bytes. There are 2·3!·8 = 96 wirings.
+#[test]
+fn a_refusal_of_three_inputs_explained() {
+    let f = "46 4E 03 01 02 06 00 00 02 00 04";
+    let g = "46 4E 03 01 01 01 00 00 01";
+    let plain = "FF 01 01 00 00 00 00 01 00 00 01 00 00 ".repeat(4);
+    let inverted = "FF 00 00 00 01 01 00 01 00 00 01 00 00 ".repeat(4);
+    let closed = "00 00 00 00 00 00";
+    let claim = format!("52 46 03 FF {closed} {plain}FF {closed} {inverted}");
+    let files = [["both.hex", f], ["first.hex", g], ["claim.hex", &claim]];
+    expect_explained("explain-three-inputs.txt", files, "", 0);
+    expect_explained("explain-three-inputs-depth-1.txt", files, " --depth 1", 0);
+}
+
+// ---- The runs that the documents show ----
+
+/// A run: the command's line without its `$ `, and what is printed below it.
+type Shown = (String, String);
+
+/// The runs in the blocks of a document, fenced or indented by four blanks.
+fn runs(document: &str) -> Vec<Shown> {
+    blocks(document).iter().flat_map(|block| runs_of(block)).collect()
+}
+
+fn blocks(document: &str) -> Vec<Vec<&str>> {
+    let mut blocks = vec![];
+    let mut lines = document.lines().peekable();
+    while let Some(line) = lines.next() {
+        if line.starts_with("```") {
+            blocks.push(lines.by_ref().take_while(|line| !line.starts_with("```")).collect());
+        } else if let Some(first) = line.strip_prefix("    ") {
+            let mut block = vec![first];
+            // Empty lines inside belong to it.
+            let inside = |line: &&str| line.is_empty() || line.starts_with("    ");
+            while let Some(line) = lines.next_if(inside) {
+                block.push(line.strip_prefix("    ").unwrap_or(""));
+            }
+            blocks.push(block);
+        }
+    }
+    blocks
+}
+
+fn runs_of(block: &[&str]) -> Vec<Shown> {
+    let mut runs = vec![];
+    let starts = (0..block.len()).filter(|&at| block[at].starts_with("$ "));
+    for start in starts {
+        let line = &block[start]["$ ".len()..];
+        if line.starts_with("./zap ") || line.starts_with("zap ") {
+            let printed = block[start + 1..].iter().take_while(|line| !line.starts_with("$ "));
+            let printed: Vec<&str> = printed.copied().collect();
+            runs.push((line.to_string(), printed.join("\n").trim_end().to_string()));
+        }
+    }
+    runs
+}
+
+#[test]
+fn runs_are_found_in_blocks() {
+    let document = "\
+Some words, and `$ zap show a` among them.
+
+    $ ./zap show a
+    a: 1
+
+      x
+    $ ls
+    b
+    $ zap show b
+
+Words.
+
+```sh
+$ ./zap show c # why
+c
+```
+
+    zap show d
+    $ ./zapper
+";
+    let shown = |line: &str, printed: &str| (line.to_string(), printed.to_string());
+    let expected = [
+        shown("./zap show a", "a: 1\n\n  x"),
+        shown("zap show b", ""),
+        shown("./zap show c # why", "c"),
+    ];
+    assert_eq!(runs(document), expected);
+}
+
+/// Each run prints what the document says. It is made in a folder that looks like the
+/// repository's root, so that what it writes stays there; a block's runs share one.
+#[test]
+fn the_documents_show_what_is_printed() {
+    let mut found = vec![];
+    for document in ["README.md", "docs/FORMATS.md", "examples/README.md"] {
+        let text = fs::read_to_string(repository().join(document)).expect("a document");
+        let runs = runs(&text);
+        let folder = Folder::new();
+        for entry in fs::read_dir(repository()).expect("the repository") {
+            let path = entry.expect("read").path();
+            symlink(&path, folder.path().join(path.file_name().expect("a name"))).expect("a link");
+        }
+        for (line, printed) in &runs {
+            // A terminal shows both outputs. The script runs the binary that is named.
+            let beside = binary().parent().expect("a folder").to_path_buf();
+            let others = std::env::var("PATH").expect("a PATH");
+            let mut shell = Command::new("sh");
+            shell.args(["-c", &format!("exec 2>&1\n{line}")]).current_dir(folder.path());
+            shell.env("PATH", format!("{}:{others}", beside.display()));
+            shell.env("ZAP_BINARY", binary()).env_remove("NO_COLOR").env_remove("TERM");
+            let ran = Ran::of(&mut shell, b"");
+            assert_eq!(ran.out.trim_end(), printed, "{document}: {line}");
+        }
+        found.push((document, runs.len()));
+    }
+    assert!(found[0].1 > 0, "README.md shows no run: {found:?}");
+}
