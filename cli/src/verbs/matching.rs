@@ -168,7 +168,8 @@ fn show(out: &mut Out, answer: Answer, claim: &[u8], kept: Option<&str>, args: &
     refusal::numbers(out, answer);
 }
 
-/// What was found, for a script; a refusal's bytes only where they are few.
+/// What was found, for a script; a claim's bytes only where they are few. Of a longer
+/// one, its first bytes are enough here.
 fn claimed(object: Object, answer: Answer, claim: &[u8]) -> Object {
     let result = if answer.kind == 1 { "match" } else { "no match" };
     let mut object = object.text("result", result).answer(answer).number("n", claim[2] as usize);
@@ -181,18 +182,19 @@ fn claimed(object: Object, answer: Answer, claim: &[u8]) -> Object {
         object = object.number("q", wiring.q as usize);
         object = object.list("wiring", wiring.choices.iter().enumerate().map(choice));
     }
-    if claim.len() <= SCREEN {
+    let length = answer.place as usize;
+    if length <= SCREEN {
         object = object.text("bytes", &hex(claim));
     }
-    object.number("length", claim.len())
+    object.number("length", length)
 }
 
 // ---- Several ----
 
 /// How f stands to one g.
 enum Outcome {
-    Match(Answer, Vec<u8>),
-    NoMatch(Answer, Vec<u8>),
+    /// A match or a refusal, and the claim's first bytes.
+    Claimed(Answer, Vec<u8>),
     OtherN(Answer, usize),
     Refused(Answer, Taken),
     Unread(String),
@@ -238,23 +240,20 @@ fn outcome(f: &Taken, source: &Source, buffer: &mut [u8]) -> Outcome {
         Came::PassedOver(why) => return Outcome::PassedOver(why),
     };
     let answer = find(&f.bytes, &g.bytes, buffer);
-    match (answer.code, answer.kind) {
-        (0, 1) => Outcome::Match(answer, buffer[..answer.place as usize].to_vec()),
+    match answer.code {
         // Its first bytes are enough for a line.
-        (0, _) => {
-            Outcome::NoMatch(answer, buffer[..(answer.place as usize).min(SCREEN + 1)].to_vec())
-        }
-        (9, _) => Outcome::OtherN(answer, g.bytes[2] as usize),
+        0 => Outcome::Claimed(answer, buffer[..(answer.place as usize).min(SCREEN)].to_vec()),
+        9 => Outcome::OtherN(answer, g.bytes[2] as usize),
         _ => Outcome::Refused(answer, g),
     }
 }
 
 fn line(out: &Out, name: &str, outcome: &Outcome) -> Option<String> {
     Some(match outcome {
-        Outcome::Match(_, claim) => {
+        Outcome::Claimed(answer, claim) if answer.kind == 1 => {
             format!("{name}: {}: {}", out.paint(Colour::Good, "match"), Wiring::of(claim).line())
         }
-        Outcome::NoMatch(answer, _) => {
+        Outcome::Claimed(answer, _) => {
             format!("{name}: no match, a refusal of {}", count(answer.place as usize, "byte"))
         }
         Outcome::OtherN(_, n) => format!("{name}: no match, it has {}", count(*n, "input")),
@@ -270,16 +269,7 @@ fn line(out: &Out, name: &str, outcome: &Outcome) -> Option<String> {
 fn object(f: &Taken, name: &str, outcome: Outcome) -> Object {
     let object = Object::new(VERB.name).text("f", &f.name).text("g", name);
     match outcome {
-        Outcome::Match(answer, claim) => claimed(object, answer, &claim),
-        Outcome::NoMatch(answer, claim) => {
-            let object =
-                object.text("result", "no match").answer(answer).number("n", claim[2] as usize);
-            let object = match claim.len() {
-                0..=SCREEN => object.text("bytes", &hex(&claim)),
-                _ => object,
-            };
-            object.raw("length", &answer.place.to_string())
-        }
+        Outcome::Claimed(answer, claim) => claimed(object, answer, &claim),
         Outcome::OtherN(answer, n) => {
             object.text("result", "other n").answer(answer).number("n", n)
         }
@@ -303,8 +293,8 @@ const NAMED: usize = 5;
 impl Table {
     fn add(&mut self, name: &str, outcome: &Outcome) {
         let row = match outcome {
-            Outcome::Match(..) => 0,
-            Outcome::NoMatch(..) => 1,
+            Outcome::Claimed(answer, _) if answer.kind == 1 => 0,
+            Outcome::Claimed(..) => 1,
             Outcome::OtherN(..) => 2,
             Outcome::Refused(..) => 3,
             Outcome::Unread(_) => 4,
