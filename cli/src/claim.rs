@@ -274,7 +274,7 @@ impl Pair {
         } else if self.g.named() as u16 & !used == 0 {
             "no literal of g's cube is on a free input"
         } else {
-            "of which this command does not see the reason"
+            "as the archive says"
         };
         format!("{f}, and {g}, can no longer be kept apart ({why})")
     }

@@ -1,6 +1,6 @@
 -- The numbers of an answer, faults in bytes that are read one after the other, and a lent buffer after an answer.
 -- Document 01, "Numbers returned".
-use Prim.Native.Nat.{ℕ, _+_, _*_, _/_, _%_, min}
+use Prim.Native.Nat.{ℕ, _+_, _-_, _*_, _/_, _%_, _^_, min}
 use mathlib.Core.Path.{_≡_}
 use mathlib.Core.Bool.{Bool, cond, _&&_}
 use mathlib.Core.List.{List}
@@ -84,9 +84,9 @@ pub record Leaves (number : ℕ) (stored before after : List ℕ) (r : ℕ) : Ty
 unfoldable pub packed : Answer → ℕ
 packed a = a .code + 256 * a .kind + 65536 * a .«record» + 16777216 * a .place
 
--- the largest place that the host's number has room for: 2^40 - 1
+-- the largest place that the host's number has room for
 abbrev pub most-told : ℕ
-most-told = 1099511627775
+most-told = 2 ^ 40 - 1
 
 -- the answer as the host is told it: a place beyond the largest that fits is told as the largest
 unfoldable pub told : Answer → Answer

@@ -1,6 +1,6 @@
 -- Demand 2 for function records, over the contracts themselves: of any outcome that the contract of a call allows.
 use Prim.Native.Nat.{ℕ, _+_, _^_, _≤_}
-use mathlib.Core.Path.{_≡_, sym, ap, _∙_}
+use mathlib.Core.Path.{_≡_, sym, ap, subst, _∙_}
 use mathlib.Core.Bool.{_||_}
 use mathlib.Core.List.{List}
 use native.Mathlib.Omega.{arith}
@@ -11,12 +11,13 @@ use lib.ListN.{length}
 use Rattle.bits.specs.Bits.{count}
 use Rattle.cubes.specs.Cubes.{some-cube, cube-names, some-holds, patterns-held, inputs-used}
 use Rattle.answers.specs.declared.Answer.{Answer}
-use Rattle.answers.specs.Answers.{accepted}
+use Rattle.answers.specs.Answers.{accepted, Tells}
 use Rattle.answers.proofs.Stores.{Stands, delivered-unchanged}
 use Rattle.records.specs.Records.{inputs, on-list, off-list}
 use Rattle.records.proofs.Frame.{record-sound, reading-accepted, reading-code, summing-accepted, summing-code}
 use Rattle.records.proofs.Meaning.{Both, accepted-apart, patterns-bound, inputs-bound}
 use Rattle.writer.specs.Writing.{record-bytes, writing}
+use Rattle.writer.proofs.Places.{writing-told}
 use Rattle.writer.proofs.RoundTrip.{Same, written-read, written-stands, bytes-again, written-again}
 use Rattle.records.proofs.read.Kinds as read-kinds
 use Rattle.records.proofs.read.Reads as read
@@ -24,6 +25,8 @@ use Rattle.records.proofs.summary.Kinds as summary-kinds
 use Rattle.records.proofs.summary.Reads as summary
 use Rattle.writer.proofs.write.Kinds as write-kinds
 use Rattle.writer.proofs.write.Reads as write
+use Rattle.host.proofs.zap_write.Kinds as zap-write-kinds
+use Rattle.host.proofs.zap_write.Reads as zap-write
 
 -- a record that the reader accepts has no pattern that is both on and off
 pub read-apart : (κs : Lfts 1) (a : Dens κs read-kinds.ps) (r : resT read-kinds.r κs .Denot) (s : AtExit (endedOf 1 read-kinds.ps read-kinds.r) κs)
@@ -43,6 +46,13 @@ write-read κs a r s p e =
 pub write-refuses : (κs : Lfts 3) (a : Dens κs write-kinds.ps) (r : resT write-kinds.r κs .Denot) (s : AtExit (endedOf 3 write-kinds.ps write-kinds.r) κs)
     → write.Post κs a r s → (r .code ≡ 0 → ⊥) → s .1 .1 .1 .0 .now ≡ a .1 .1 .1 .0 .now
 write-refuses κs a r s p bad = delivered-unchanged _ _ _ _ r p bad
+
+-- the host's number tells the writer's answer as it is, unless that is 19: then a list's length may be too long for it
+pub zap-write-tells : (κs : Lfts 3) (a : Dens κs zap-write-kinds.ps) (r : resT zap-write-kinds.r κs .Denot) (s : AtExit (endedOf 3 zap-write-kinds.ps zap-write-kinds.r) κs)
+    → zap-write.Post κs a r s
+    → let answer = writing (a .0) (a .1 .0 .now) (a .1 .1 .0 .now) (length (a .1 .1 .1 .0 .now)) in
+    (answer .code ≡ 19 → ⊥) → Tells answer r
+zap-write-tells κs a r s p h = subst (λ (x : Answer). Tells x r) (writing-told _ _ _ _ h) (p .1 .0)
 
 -- an accepted record's own n and lists give its bytes again
 pub read-write : (κs : Lfts 1) (a : Dens κs read-kinds.ps) (r : resT read-kinds.r κs .Denot) (s : AtExit (endedOf 1 read-kinds.ps read-kinds.r) κs)

@@ -82,6 +82,10 @@ cubes-place s =
     within : (code : ℕ → ℕ → ℕ) (l : List ℕ) → cubes-at s + length l ≤ length s → Placed (first-fault code l (cubes-at s))
     within code l fits = first-cases Placed (λ e. absurd (false≢true e)) code l (cubes-at s) (λ P N k h e. le-trans h fits)
 
+-- in any list of cubes
+pub first-place : (code : ℕ → ℕ → ℕ) (l : List ℕ) (at : ℕ) → first-fault code l at .place ≤ at + length l
+first-place code l at = first-cases (λ (f : Fault). f .place ≤ at + length l) zero-le code l at (λ P N k h. omega arith)
+
 -- every place is within the longest record, or just after it
 pub record-place : (s : List ℕ) → record-fault s .place ≤ 261
 unfolding header-fault

@@ -1,3 +1,4 @@
 pub mod Laws
+pub mod Places
 pub mod RoundTrip
 pub mod Settled

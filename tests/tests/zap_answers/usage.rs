@@ -44,6 +44,9 @@ fn every_verb_has_its_page() {
             assert_eq!(zap([&name[..], more]), page, "{name} {more}");
         }
         assert_eq!(zap([name, "any", "files", "--help"]), page, "{name}");
+        let in_object = zap(["help", name, "--json"]);
+        answered(&in_object, 0);
+        assert_eq!(object(&in_object).text("page"), page.out, "{name}");
     }
     let listed = zap(["help", "--json"]);
     answered(&listed, 0);

@@ -2,14 +2,16 @@
 
 use std::fs::{self, File};
 use std::os::unix::fs::symlink;
+use std::process::Command;
 
 use zap_tests::cases::{CONJ, WIRE};
-use zap_tests::command::{command, repository, Folder, Ran};
+use zap_tests::command::{binary, command, repository, Folder, Ran};
 use zap_tests::random::Random;
 use zap_tests::reference::answer::Answer;
 use zap_tests::reference::programs::hex;
 
 use crate::ways::{numbers_in_json, utf_16};
+use crate::written::make_pipe;
 
 /// Wherever one file is wanted, by its verb and words; F is the one at fault.
 const ONE_WANTED: [&str; 8] = [
@@ -250,4 +252,49 @@ fn standard_input_that_cannot_be_read() {
         (out, status),
         (format!("{{\"verb\":\"show\",\"result\":\"trouble\",\"error\":\"{why}\"}}\n"), Some(2))
     );
+}
+
+// ---- Folders ----
+
+/// To read a pipe in a folder would take for ever, so the run has an end of its own.
+#[test]
+fn what_is_no_plain_file_of_a_folder_is_left_out() {
+    let folder = Folder::new();
+    folder.write("cells/conj", CONJ);
+    fs::create_dir(folder.path().join("cells/sub")).expect("a new folder");
+    make_pipe(&folder, "cells/pipe");
+    for words in ["match cells/conj cells --json", "summary cells --json"] {
+        let mut within = Command::new("timeout");
+        within.current_dir(folder.path()).arg("20").arg(binary()).args(words.split(' '));
+        let ran = Ran::of(&mut within, b"");
+        assert_eq!((ran.err.as_str(), ran.status), ("", 0), "{words}: {}", ran.out);
+        assert_eq!(ran.out.lines().count(), 1, "{words}: {}", ran.out);
+        assert!(ran.out.contains("\"cells/conj\""), "{words}: {}", ran.out);
+    }
+}
+
+/// A link that leads nowhere may have been a function.
+#[test]
+fn a_dangling_link_of_a_folder_is_told() {
+    let folder = Folder::new();
+    folder.write("cells/conj", CONJ);
+    symlink("nowhere", folder.path().join("cells/lost")).expect("a new link");
+    for words in ["match cells/conj cells", "summary cells"] {
+        let ran = folder.zap(words);
+        assert_eq!(ran.status, 2, "{words}: {ran:?}");
+        let told = "cells/lost cannot be read: No such file or directory\n";
+        assert!((ran.out + &ran.err).contains(told), "{words}");
+    }
+}
+
+#[test]
+fn a_folder_without_files() {
+    let folder = Folder::new();
+    folder.write("conj", CONJ);
+    folder.write("cells/.hidden", CONJ);
+    for words in ["match conj cells", "summary cells"] {
+        let ran = folder.zap(words);
+        assert_eq!((ran.out.as_str(), ran.status), ("", 2), "{words}");
+        assert!(ran.err.ends_with(" folder cells\n"), "{words}: {}", ran.err);
+    }
 }

@@ -1,6 +1,6 @@
 //! Files written: whole or not at all.
 
-use std::fs::{self};
+use std::fs;
 use std::os::unix::fs::{symlink, FileTypeExt, PermissionsExt};
 use std::path::{Path, PathBuf};
 use std::process::Command;
@@ -10,7 +10,7 @@ use std::time::{Duration, Instant};
 
 use zap_tests::cases::{CONJ, CONJ_ODD_CLAIM, DISJ, ODD};
 use zap_tests::claims::trees::split_everywhere;
-use zap_tests::command::{command, Folder, Ran};
+use zap_tests::command::{binary, command, Folder, Ran};
 
 use crate::faults::quoted;
 
@@ -187,6 +187,27 @@ fn a_link_to_a_file_that_is_not_there_yet_stays_a_link() {
     let leads = fs::read_link(folder.path().join("link"));
     assert_eq!(leads.expect("it was a link"), Path::new("sub/new"));
     assert_eq!(fs::read(folder.path().join("sub/new")).expect("made"), CONJ_DISJ_CLAIM);
+}
+
+/// A run that was killed may have left its part behind, and a later one may get its
+/// number: that file is not its own. A shell keeps its number where it becomes the
+/// command.
+#[test]
+fn a_part_that_is_somebody_elses_stays() {
+    let folder = functions();
+    let before = folder.names();
+    let script = "echo other >.zap.$$.0.part; exec \"$0\" match conj disj -o c";
+    let mut shell = Command::new("sh");
+    shell.current_dir(folder.path()).args(["-c", script]).arg(binary());
+    let ran = Ran::of(&mut shell, b"");
+    assert_eq!((ran.err.as_str(), ran.status), ("", 0));
+    let left: Vec<String> =
+        folder.names().into_iter().filter(|name| !before.contains(name)).collect();
+    let [part, claim] = &left[..] else { panic!("{left:?}") };
+    assert!(part.starts_with(".zap.") && part.ends_with(".0.part"), "{part}");
+    assert_eq!(fs::read(folder.path().join(part)).expect("still there"), b"other\n");
+    assert_eq!(claim, "c");
+    assert_eq!(fs::read(folder.path().join(claim)).expect("written"), CONJ_DISJ_CLAIM);
 }
 
 /// No file system of Linux takes a longer name; this one may be used in full.
