@@ -240,7 +240,7 @@ fn cut(digits: &str) -> String {
 pub struct Source {
     pub path: OsString,
     /// It was not named, but lies in a folder that was.
-    of_folder: bool,
+    pub of_folder: bool,
 }
 
 /// Files as named, and each folder's files by name, in its place. Of a folder, hidden

@@ -12,7 +12,7 @@ use std::ffi::OsString;
 use crate::args::{Args, Opt, JSON};
 use crate::input::{self, Taken};
 use crate::output::{trouble, Out, Trouble};
-use crate::words::nearest;
+use crate::words::{nearest, number};
 use crate::Status;
 
 pub struct Verb {
@@ -92,6 +92,14 @@ pub fn overview() -> String {
 /// Lines that stand apart from the words around them.
 fn indented(out: &mut Out, lines: &[String]) {
     lines.iter().for_each(|line| out.line(&format!("  {line}")));
+}
+
+/// A row of a table at the end: how many came to this, and the first of them.
+fn counted(what: &str, names: &[String]) -> String {
+    const NAMED: usize = 5;
+    let more = if names.len() > NAMED { ", .." } else { "" };
+    let listed = names[..names.len().min(NAMED)].join(", ");
+    format!("{what:12}{:>7}  {listed}{more}", number(names.len()))
 }
 
 /// f, g and a claim, in that order.

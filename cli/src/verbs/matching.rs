@@ -6,14 +6,14 @@ use std::io::{self, Write};
 use zap_calls::{Answer, LONGEST_CLAIM};
 
 use super::check::none_agrees;
-use super::{indented, Verb};
+use super::{counted, indented, Verb};
 use crate::args::{Args, Opt};
 use crate::claim::{measure, Choice, Wiring};
 use crate::function::Function;
 use crate::input::{self, Came, Source, Taken};
 use crate::json::Object;
 use crate::output::{trouble, write_whole, Colour, Out, Trouble};
-use crate::words::{count, hex, number};
+use crate::words::{count, hex};
 use crate::{many, refusal, Status};
 
 const FILE: Opt = Opt {
@@ -287,9 +287,6 @@ struct Table {
 
 const ROWS: [&str; 6] = ["match", "no match", "other n", "refused", "unread", "passed over"];
 
-/// So many names are listed beside a number.
-const NAMED: usize = 5;
-
 impl Table {
     fn add(&mut self, name: &str, outcome: &Outcome) {
         let row = match outcome {
@@ -306,12 +303,9 @@ impl Table {
     fn show(&self, out: &mut Out) {
         out.line("");
         for (row, names) in ROWS.iter().zip(&self.names) {
-            if names.is_empty() {
-                continue;
+            if !names.is_empty() {
+                out.line(&counted(row, names));
             }
-            let more = if names.len() > NAMED { ", .." } else { "" };
-            let listed = names[..names.len().min(NAMED)].join(", ");
-            out.line(&format!("{row:12}{:>7}  {listed}{more}", number(names.len())));
         }
     }
 

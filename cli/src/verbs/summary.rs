@@ -1,9 +1,9 @@
 //! `zap summary`: how many patterns are on, off and open, and how many inputs are in use.
 
-use super::Verb;
+use super::{counted, Verb};
 use crate::args::Args;
 use crate::function::Function;
-use crate::input::{self, Came, Source, Taken};
+use crate::input::{self, Came, Taken};
 use crate::json::Object;
 use crate::output::{complain, Out, Trouble};
 use crate::words::count;
@@ -14,7 +14,7 @@ pub const VERB: Verb = Verb {
     usage: "F..",
     about: "counts the on, off and open patterns of functions, and their inputs in use",
     options: &[],
-    more: "A line for each function, a table for several. A folder stands for the functions in it. A pattern in several cubes\ncounts once; an input is in use if some cube names it.\n",
+    more: "A line for each function, a table for several. A folder stands for the functions in it; claims and other text there are\npassed over, and counted. A pattern in several cubes counts once; an input is in use if some cube names it.\n",
     run,
 };
 
@@ -25,42 +25,44 @@ fn run(args: &Args, out: &mut Out) -> Result<Status, Trouble> {
         return VERB.misused();
     }
     let sources = input::spread(&args.files)?;
-    let table = sources.len() > 1 && !args.json();
+    let table = (sources.len() > 1 || sources[0].of_folder) && !args.json();
     if table {
         out.line(&row(HEADS.map(str::to_string)));
     }
     let mut status = Status::Yes;
+    let mut passed_over = vec![];
     for source in &sources {
-        let taken = match source.take() {
-            Came::Function(taken) => Ok(taken),
-            Came::Unread(why) => Err(why),
-            Came::PassedOver(_) => continue,
+        let name = input::name_of(&source.path);
+        let object = Object::new(VERB.name).text("file", &name);
+        let came = match source.take() {
+            Came::Function(taken) => one(args.json(), table, object, taken, out),
+            Came::Unread(Trouble(why)) => {
+                if args.json() {
+                    out.line(&object.text("result", "unread").text("error", &why).end());
+                } else {
+                    out.flush();
+                    complain(&why);
+                }
+                Status::Trouble
+            }
+            Came::PassedOver(why) => {
+                if args.json() {
+                    out.line(&object.text("result", "passed over").text("error", why).end());
+                }
+                passed_over.push(name);
+                Status::Yes
+            }
         };
-        status = status.max(one(args.json(), table, source, taken, out));
+        status = status.max(came);
+    }
+    if table && !passed_over.is_empty() {
+        out.line("");
+        out.line(&counted("passed over", &passed_over));
     }
     Ok(status)
 }
 
-fn one(
-    json: bool,
-    table: bool,
-    source: &Source,
-    taken: Result<Taken, Trouble>,
-    out: &mut Out,
-) -> Status {
-    let object = Object::new(VERB.name).text("file", &input::name_of(&source.path));
-    let taken = match taken {
-        Ok(taken) => taken,
-        Err(Trouble(why)) => {
-            if json {
-                out.line(&object.text("result", "unread").text("error", &why).end());
-            } else {
-                out.flush();
-                complain(&why);
-            }
-            return Status::Trouble;
-        }
-    };
+fn one(json: bool, table: bool, object: Object, taken: Taken, out: &mut Out) -> Status {
     let (answer, function) = Function::read(&taken.bytes);
     let Some(f) = function else {
         if json {

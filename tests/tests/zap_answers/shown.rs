@@ -1,5 +1,7 @@
 //! `zap show` and `zap summary`, held against the reference.
 
+use std::fs;
+
 use zap_tests::cases::CONJ;
 use zap_tests::command::{repository, Folder, Ran};
 use zap_tests::json::Json;
@@ -148,15 +150,26 @@ fn every_example_is_shown_and_summed_up() {
         table.push((name, record));
     }
 
-    // The folder: a row for each function, and nothing for what is none.
+    // The folder: a row for each function, and at the end what is none, by its names.
     let folder = repository().join("examples");
+    let entries = fs::read_dir(&folder).expect("a folder");
+    let mut others: Vec<String> =
+        entries.map(|entry| name_of(&entry.expect("read").path())).collect();
+    others.retain(|name| table.iter().all(|(function, _)| function != name));
+    others.sort();
+    assert_eq!(others.len(), 5, "as many as are listed: {others:?}");
     let text = run(&[&"summary", &folder]);
     answered(&text, 0);
-    let rows: Vec<&str> = text.out.lines().skip(1).collect();
+    let (rows, end) = text.out.split_once("\n\n").expect("a table, and what follows");
+    let passed_over = format!("passed over 5 {}", others.join(", "));
+    assert_eq!(end.split_whitespace().collect::<Vec<_>>().join(" "), passed_over);
+    let rows: Vec<&str> = rows.lines().skip(1).collect();
     assert_eq!(rows.len(), table.len(), "{}", text.out);
     let json = run(&[&"summary", &folder, &"--json"]);
     answered(&json, 0);
-    let listed = objects(&json);
+    let (told, listed): (Vec<Json>, Vec<Json>) =
+        objects(&json).into_iter().partition(|object| object.text("result") == "passed over");
+    assert_eq!(told.iter().map(|object| object.text("file")).collect::<Vec<_>>(), others);
     assert_eq!(listed.len(), table.len(), "{}", json.out);
     for (((name, record), row), object) in table.iter().zip(rows).zip(&listed) {
         let [n, in_use, on, off, open] = counts(record).map(|(_, count)| count.to_string());
