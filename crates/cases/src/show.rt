@@ -34,7 +34,7 @@ pub fn answer(name: &[u8], found: Answer) {
 }
 
 pub fn byte(b: u8) {
-    let two = [lines::digit(b / 16), lines::digit(b % 16)];
+    let two = [words::digit(b / 16), words::digit(b % 16)];
     text(&two);
 }
 

@@ -21,7 +21,8 @@ use Rattle.claims.specs.Claims.{own-tree}
 use Rattle.claims.specs.Reading.{_onward_, in-turn, read-tree}
 use Rattle.checker.specs.Checking.{header-fault as claim-header, choice-code, choices-fault, match-fault, index-fault, closing-fault, tree-fault, refusal-fault, claim-fault, kind-of, checking}
 use Rattle.matcher.specs.Matching.{first-agreeing, claim-of, kind-found, matching}
-use Rattle.lines.specs.Lines.{decimal-within, line, answer-line, text, match-text, match-lines, check-text, check-lines}
+use Rattle.words.specs.Words.{decimal-within, line}
+use Rattle.lines.specs.Lines.{answer-line, text, match-text, match-lines, check-text, check-lines}
 use Rattle.answers.proofs.Stores.{Stands, leaves-stands}
 use Rattle.lines.proofs.match_lines.Kinds as match-kinds
 use Rattle.lines.proofs.match_lines.Reads as match

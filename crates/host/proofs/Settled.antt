@@ -11,6 +11,10 @@ use Rattle.host.proofs.zap_summary.Kinds as zap-summary-kinds
 use Rattle.host.proofs.zap_summary.Reads as zap-summary
 use Rattle.host.proofs.zap_write.Kinds as zap-write-kinds
 use Rattle.host.proofs.zap_write.Reads as zap-write
+use Rattle.host.proofs.zap_read_table.Kinds as zap-read-table-kinds
+use Rattle.host.proofs.zap_read_table.Reads as zap-read-table
+use Rattle.host.proofs.zap_write_table.Kinds as zap-write-table-kinds
+use Rattle.host.proofs.zap_write_table.Reads as zap-write-table
 
 -- the number, and the buffer afterwards
 pub zap-match-settled : SettledAs 3 zap-match-kinds.ps zap-match-kinds.r (λ κs. ℕ × List ℕ) (λ κs x s. (x, s .1 .1 .0 .now)) zap-match.Post
@@ -26,3 +30,9 @@ zap-summary-settled κs a r₁ r₂ s₁ s₂ p q i = ((p .0 .returned ∙ sym (
 -- the number, and the buffer afterwards
 pub zap-write-settled : SettledAs 3 zap-write-kinds.ps zap-write-kinds.r (λ κs. ℕ × List ℕ) (λ κs x s. (x, s .1 .1 .1 .0 .now)) zap-write.Post
 zap-write-settled κs a r₁ r₂ s₁ s₂ p q i = ((p .0 ∙ sym (q .0)) i, (p .1 .1 ∙ sym (q .1 .1)) i)
+
+pub zap-read-table-settled : SettledAs 2 zap-read-table-kinds.ps zap-read-table-kinds.r (λ κs. ℕ × List ℕ) (λ κs x s. (x, s .1 .0 .now)) zap-read-table.Post
+zap-read-table-settled κs a r₁ r₂ s₁ s₂ p q i = ((p .0 ∙ sym (q .0)) i, (p .1 .1 ∙ sym (q .1 .1)) i)
+
+pub zap-write-table-settled : SettledAs 2 zap-write-table-kinds.ps zap-write-table-kinds.r (λ κs. ℕ × List ℕ) (λ κs x s. (x, s .1 .0 .now)) zap-write-table.Post
+zap-write-table-settled κs a r₁ r₂ s₁ s₂ p q i = ((p .0 ∙ sym (q .0)) i, (p .1 .1 ∙ sym (q .1 .1)) i)

@@ -13,7 +13,8 @@ use Rattle.answers.proofs.Stores.{Stands, delivered-stands}
 use Rattle.checker.specs.Checking.{checking}
 use Rattle.matcher.specs.Matching.{first-agreeing, kind-found, claim-for, matching}
 use Rattle.matcher.proofs.Exact.{matching-room, matching-read}
-use Rattle.lines.specs.Lines.{line, answer-line, text, this-record, what-follows, match-text, match-lines, too-long, check-text, check-lines}
+use Rattle.words.specs.Words.{line}
+use Rattle.lines.specs.Lines.{answer-line, text, this-record, what-follows, match-text, match-lines, too-long, check-text, check-lines}
 
 -- ---- the match program
 

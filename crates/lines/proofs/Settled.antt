@@ -2,16 +2,11 @@
 use Prim.Native.Nat.{ℕ}
 use mathlib.Core.Path.{sym, _∙_}
 use mathlib.Core.List.{List}
-use Rattle.settled.specs.Settled.{Settled, SettledAs}
-use Rattle.lines.proofs.digit.Kinds as digit-kinds
-use Rattle.lines.proofs.digit.Reads as digit
+use Rattle.settled.specs.Settled.{SettledAs}
 use Rattle.lines.proofs.match_lines.Kinds as match-lines-kinds
 use Rattle.lines.proofs.match_lines.Reads as match-lines
 use Rattle.lines.proofs.check_lines.Kinds as check-lines-kinds
 use Rattle.lines.proofs.check_lines.Reads as check-lines
-
-pub digit-settled : Settled 0 digit-kinds.ps digit-kinds.r digit.Post
-digit-settled κs a r₁ r₂ s₁ s₂ p q = p ∙ sym q
 
 -- the length, and the buffer afterwards
 pub match-lines-settled : SettledAs 2 match-lines-kinds.ps match-lines-kinds.r (λ κs. ℕ × List ℕ) (λ κs x s. (x, s .1 .0 .now)) match-lines.Post

@@ -1,94 +1,21 @@
--- Numbers and bytes as text: the digits one by one, how long they get, and a line word by word.
-use Prim.Native.Nat.{ℕ, zero, suc, _+_, _*_, _-_, _/_, _%_, _^_, _≤_, _<_}
-use mathlib.Core.Path.{_≡_, refl, sym, ap, ap₂, _∙_, subst}
+-- Answers and bytes as text: how long they get, and a line number by number and byte by byte.
+use Prim.Native.Nat.{ℕ, suc, _+_, _*_, _/_, _%_, _^_, _≤_, _<_}
+use mathlib.Core.Path.{_≡_, refl, sym, ap, ap₂, _∙_}
 use mathlib.Core.Bool.{Bool, true, false, cond}
 use mathlib.Core.List.{List, [], _∷_, _++_, map}
-use native.Mathlib.Nat.{le-refl}
 use native.Mathlib.Numerals.{add-one}
 use native.Mathlib.Omega.{arith}
-use borrow.Author.Tests.{lt-ltb, le-ltb, ltb-true, ltb-false}
+use borrow.Author.Tests.{lt-ltb, le-ltb}
 use lib.Dec.{ltb}
 use lib.ListN.{length, getD, take, drop, length-append, length-drop, drop-of-length-le}
-use lib.Seq.{sets, length-sets, drop-cons, append-snoc}
+use lib.Seq.{sets, length-sets, drop-cons}
 use Rattle.answers.specs.declared.Answer.{Answer}
-use Rattle.answers.proofs.Stores.{sets-join, sets-stands}
-use Rattle.lines.specs.Lines.{digit, decimal-within, decimal, hex, line, answer-line, text}
+use Rattle.answers.proofs.Stores.{sets-stands}
+use Rattle.words.specs.Words.{digit, decimal, line}
+use Rattle.words.proofs.Decimals.{behind, decimal-most, word-next}
+use Rattle.lines.specs.Lines.{hex, answer-line, text}
 
--- ---- text in a buffer
-
--- what is stored behind other text makes one text with it
-pub behind : (out front l : List ℕ) (start k : ℕ) (more : List ℕ) → l ≡ sets out start front → k ≡ start + length front → sets l k more ≡ sets out start (front ++ more)
-behind out front l start k more stored ends = ap₂ (λ (l : List ℕ) (k : ℕ). sets l k more) stored ends ∙ sets-join out front more start
-
--- ---- numbers in decimal
-
--- how often a number may be divided does not matter, from the number itself on
-within : (k m x : ℕ) → x ≤ k → x ≤ m → decimal-within k x ≡ decimal-within m x
-unfolding decimal-within
-within zero zero x h g = refl
-within zero (suc m) x h g = simp (lt-ltb x 10 (omega (arith, h)))
-within (suc k) zero x h g = simp (lt-ltb x 10 (omega (arith, g)))
-within (suc k) (suc m) x h g = go (ltb x 10) refl (λ big. within k m (x / 10) (omega (arith, big, h)) (omega (arith, big, g)))
-  where
-    go : (t : Bool) → ltb x 10 ≡ t → (10 ≤ x → decimal-within k (x / 10) ≡ decimal-within m (x / 10))
-        → cond t (digit x ∷ []) (decimal-within k (x / 10) ++ (digit (x % 10) ∷ [])) ≡ cond t (digit x ∷ []) (decimal-within m (x / 10) ++ (digit (x % 10) ∷ []))
-    go true e again = refl
-    go false e again = ap (λ (l : List ℕ). l ++ (digit (x % 10) ∷ [])) (again (ltb-false x 10 e))
-
-pub decimal-short : (x : ℕ) → x < 10 → decimal x ≡ digit x ∷ []
-unfolding decimal-within
-decimal-short zero h = refl
-decimal-short (suc k) h = simp (lt-ltb (suc k) 10 h)
-
-pub decimal-long : (x : ℕ) → 10 ≤ x → decimal x ≡ decimal (x / 10) ++ (digit (x % 10) ∷ [])
-unfolding decimal-within
-decimal-long zero h = absurd (omega (arith, h))
-decimal-long (suc k) h =
-    simp (le-ltb (suc k) 10 h)
-    (ap (λ (l : List ℕ). l ++ (digit (suc k % 10) ∷ [])) (within k (suc k / 10) (suc k / 10) (omega (arith, h)) (omega arith)))
-
-pub long-length : (x : ℕ) → 10 ≤ x → length (decimal x) ≡ length (decimal (x / 10)) + 1
-long-length x h = ap length (decimal-long x h) ∙ length-append (decimal (x / 10)) (digit (x % 10) ∷ [])
-
--- a number below 10^k has at most k digits
-pub decimal-most : (k x : ℕ) → x < 10 ^ suc k → length (decimal x) ≤ suc k
-decimal-most zero x h = subst (λ (l : List ℕ). length l ≤ 1) (sym (decimal-short x (omega (arith, h)))) (omega arith)
-decimal-most (suc k) x h = go (ltb x 10) refl (decimal-most k (x / 10) (omega (arith, h)))
-  where
-    go : (t : Bool) → ltb x 10 ≡ t → length (decimal (x / 10)) ≤ suc k → length (decimal x) ≤ suc (suc k)
-    go true e most = subst (λ (l : List ℕ). length l ≤ suc (suc k)) (sym (decimal-short x (ltb-true x 10 e))) (omega arith)
-    go false e most = omega (arith, most, long-length x (ltb-false x 10 e))
-
--- the digits, read from the left, give the number back
-pub read-decimal : ℕ → List ℕ → ℕ
-read-decimal so-far [] = so-far
-read-decimal so-far (d ∷ ds) = read-decimal (10 * so-far + (d - 48)) ds
-
-last-read : (so-far : ℕ) (ds : List ℕ) (d : ℕ) → read-decimal so-far (ds ++ (d ∷ [])) ≡ 10 * read-decimal so-far ds + (d - 48)
-unfolding read-decimal
-last-read so-far [] d = refl
-last-read so-far (c ∷ ds) d = last-read (10 * so-far + (c - 48)) ds d
-
-digit-read : (d : ℕ) → d < 10 → digit d - 48 ≡ d
-digit-read d h = simp (lt-ltb d 10 h) (omega arith)
-
-one-read : (d : ℕ) → d < 10 → read-decimal 0 (digit d ∷ []) ≡ d
-unfolding read-decimal
-one-read d h = omega (arith, digit-read d h)
-
-reads-within : (k x : ℕ) → x ≤ k → read-decimal 0 (decimal x) ≡ x
-reads-within zero x h = ap (read-decimal 0) (decimal-short x (omega (arith, h))) ∙ one-read x (omega (arith, h))
-reads-within (suc k) x h = go (ltb x 10) refl (λ big. reads-within k (x / 10) (omega (arith, big, h)))
-  where
-    go : (t : Bool) → ltb x 10 ≡ t → (10 ≤ x → read-decimal 0 (decimal (x / 10)) ≡ x / 10) → read-decimal 0 (decimal x) ≡ x
-    go true e again = let small = ltb-true x 10 e in ap (read-decimal 0) (decimal-short x small) ∙ one-read x small
-    go false e again =
-        let big = ltb-false x 10 e in
-        let one = digit-read (x % 10) (omega arith) in
-        ap (read-decimal 0) (decimal-long x big) ∙ last-read 0 (decimal (x / 10)) (digit (x % 10)) ∙ omega (arith, again big, one)
-
-pub decimal-reads : (x : ℕ) → read-decimal 0 (decimal x) ≡ x
-decimal-reads x = reads-within x x (le-refl x)
+-- ---- an answer's line
 
 -- the numbers of an answer: bytes, and a place of 64 bits
 pub record Digits (a : Answer) : Type 0 where
@@ -105,13 +32,6 @@ digits-most a code kind who place =
       record-digits = decimal-most 2 (a .«record») (omega (arith, who));
       place-digits = decimal-most 19 (a .place) (omega (arith, place));
     }
-
--- ---- a line, word by word
-
--- a word that is not the last
-word-next : (w v : List ℕ) (ws : List (List ℕ)) → line (w ∷ v ∷ ws) ≡ (w ++ (32 ∷ [])) ++ line (v ∷ ws)
-unfolding line
-word-next w v ws = sym (append-snoc w 32 (line (v ∷ ws)))
 
 -- the line of an answer: four numbers, each with the character after it
 pub answer-words : (a : Answer) → answer-line a ≡ (decimal (a .code) ++ (32 ∷ [])) ++ ((decimal (a .kind) ++ (32 ∷ [])) ++ ((decimal (a .«record») ++ (32 ∷ [])) ++ (decimal (a .place) ++ (10 ∷ []))))
@@ -148,7 +68,9 @@ module _ (a : Answer) (out out₁ out₂ out₃ out₄ : List ℕ) (end₁ end�
             ∙ ap (sets out 0) (sym (answer-words a)),
       )
 
--- each byte of a line in hex takes three characters
+-- ---- a line of bytes in hex
+
+-- each byte takes three characters
 pub hex-length : (bytes : List ℕ) → length (line (map hex bytes)) ≡ 3 * length bytes
 unfolding line
 hex-length [] = refl

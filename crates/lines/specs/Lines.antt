@@ -1,37 +1,20 @@
 -- What the two programs print for what they read. Document 01, the end of "Small functions to try". Text is a list of ASCII codes.
-use Prim.Native.Nat.{ℕ, zero, suc, _+_, _/_, _%_}
+use Prim.Native.Nat.{ℕ, _/_, _%_}
 use mathlib.Core.Bool.{cond}
 use mathlib.Core.List.{List, [], _∷_, _++_, map}
 use lib.Dec.{eqb, ltb}
 use lib.ListN.{length, take, drop}
+use Rattle.words.specs.Words.{digit, decimal, line}
 use Rattle.answers.specs.declared.Answer.{Answer}
 use Rattle.records.specs.Records.{record-end}
 use Rattle.checker.specs.Checking.{checking}
 use Rattle.matcher.specs.Matching.{matching, claim-for}
 
--- ---- numbers and bytes as text
-
--- 0 to 9, then A to F
-abbrev pub digit : ℕ → ℕ
-digit d = cond (ltb d 10) (48 + d) (55 + d)
-
--- a number in decimal, divided by ten at most k times; the number itself is always enough for k
-unfoldable pub decimal-within : ℕ → ℕ → List ℕ
-decimal-within zero x = digit x ∷ []
-decimal-within (suc k) x = cond (ltb x 10) (digit x ∷ []) (decimal-within k (x / 10) ++ (digit (x % 10) ∷ []))
-
-abbrev pub decimal : ℕ → List ℕ
-decimal x = decimal-within x x
+-- ---- answers and bytes as text
 
 -- a byte in capital hex
 abbrev pub hex : ℕ → List ℕ
 hex b = digit (b / 16) ∷ digit (b % 16) ∷ []
-
--- words with single blanks between them, and LF after the last; no words, no line
-unfoldable pub line : List (List ℕ) → List ℕ
-line [] = []
-line (w ∷ []) = w ++ (10 ∷ [])
-line (w ∷ v ∷ ws) = w ++ (32 ∷ line (v ∷ ws))
 
 -- code, kind, record and place in decimal
 unfoldable pub answer-line : Answer → List ℕ

@@ -2,14 +2,15 @@
 // is left with reading and writing.
 ghost use mathlib.Core.Path.{_≡_};
 ghost use mathlib.Core.Bool.{cond};
-ghost use mathlib.Core.List.{_++_, _∷_, [], map};
-ghost use Prim.Native.Nat.{_+_, _*_, _≤_, _<_, min};
+ghost use mathlib.Core.List.{map};
+ghost use Prim.Native.Nat.{_+_, _*_, _≤_, min};
 ghost use lib.Dec.{eqb, ltb};
 ghost use lib.ListN.{length};
 ghost use lib.Seq.{sets};
 ghost use Rattle.answers.specs.Answers.{Leaves};
 ghost use Rattle.records.specs.Records.{record-end};
-ghost use Rattle.lines.specs.Lines.{digit as glyph, decimal, hex, line, answer-line, text, this-record, what-follows, match-lines, check-lines};
+ghost use Rattle.words.specs.Words.{line};
+ghost use Rattle.lines.specs.Lines.{hex, answer-line, text, this-record, what-follows, match-lines, check-lines};
 use answers::Answer;
 
 // Where the first record of the input is cut: where its counts say that it ends, untested, or at the input's end.
@@ -42,43 +43,6 @@ fn what_follows(input: &[u8]) -> &[u8]
     &input[end..]
 }
 
-// A digit in capital hex.
-pub fn digit(d: u8) -> u8
-    requires { ⌜ d < 16 ⌝ }
-    ensures { λ r. ⌜ r ≡ glyph d ⌝ }
-{
-    if d < 10 {
-        return b'0' + d;
-    }
-    b'A' + (d - 10)
-}
-
-// Puts a number into the buffer from `start` on, in decimal, and says where it ends: the digits before the last by this function.
-fn put_decimal(x: u64, out: &mut [u8], start: usize) -> usize
-    requires { ⌜ start + length (decimal x) ≤ length (now out) ⌝ }
-    ensures { λ r. ⌜ r ≡ start + length (decimal x) ⌝ }
-    ensures { λ r. ⌜ now (out .exit) ≡ sets (now (out .entry)) start (decimal x) ⌝ }
-{
-    if x < 10 {
-        out[start] = digit(x as u8);
-        return start + 1;
-    }
-    let last = put_decimal(x / 10, out, start);
-    out[last] = digit((x % 10) as u8);
-    last + 1
-}
-
-// A number, and the character that follows it.
-fn put_number(x: u64, next: u8, out: &mut [u8], start: usize) -> usize
-    requires { ⌜ start + length (decimal x) < length (now out) ⌝ }
-    ensures { λ r. ⌜ r ≡ start + length (decimal x) + 1 ⌝ }
-    ensures { λ r. ⌜ now (out .exit) ≡ sets (now (out .entry)) start (decimal x ++ (next ∷ [])) ⌝ }
-{
-    let end = put_decimal(x, out, start);
-    out[end] = next;
-    end + 1
-}
-
 // The line of an answer at the buffer's start; 33 bytes hold the longest, three numbers of three digits and one of twenty.
 fn put_answer(answer: Answer, out: &mut [u8]) -> usize
     requires { ⌜ 33 ≤ length (now out) ⌝ }
@@ -86,10 +50,10 @@ fn put_answer(answer: Answer, out: &mut [u8]) -> usize
     ensures { λ r. ⌜ r ≡ length (answer-line answer) ⌝ }
     ensures { λ r. ⌜ now (out .exit) ≡ sets (now (out .entry)) 0 (answer-line answer) ⌝ }
 {
-    let kind = put_number(answer.code as u64, b' ', out, 0);
-    let record = put_number(answer.kind as u64, b' ', out, kind);
-    let place = put_number(answer.record as u64, b' ', out, record);
-    put_number(answer.place as u64, b'\n', out, place)
+    let kind = words::put_number(answer.code as u64, b' ', out, 0);
+    let record = words::put_number(answer.kind as u64, b' ', out, kind);
+    let place = words::put_number(answer.record as u64, b' ', out, record);
+    words::put_number(answer.place as u64, b'\n', out, place)
 }
 
 // What follows a word: a blank where `i` of `count` words are done, LF where all are.
@@ -112,7 +76,11 @@ fn put_hex(bytes: &[u8], out: &mut [u8], start: usize)
     while i < bytes.len() {
         let b = bytes[i];
         i += 1;
-        let word = [digit(b / 16), digit(b % 16), gap(i, bytes.len())];
+        let word = [
+            words::digit(b / 16),
+            words::digit(b % 16),
+            gap(i, bytes.len()),
+        ];
         answers::put(out, at, &word);
         at += 3;
     }

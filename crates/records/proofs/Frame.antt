@@ -95,12 +95,9 @@ bytes-good s h i =
     byte-good s 0 0x46 0x46 2 (h .mark₀) i then byte-good s 1 0x4E 0x4E 2 (h .mark₁) i then byte-good s 2 1 8 3 (h .n-byte) i
     then byte-good s 3 0 64 4 (h .a-byte) i then byte-good s 4 0 64 4 (h .b-byte) i
 
-header-good : (s : List ℕ) → Framed s → header-fault s ≡ sound
+pub header-good : (s : List ℕ) → Framed s → header-fault s ≡ sound
 unfolding header-fault _then_
 header-good s f i = bytes-good s (f .header) i then (ap (λ (end : ℕ). length-fault (length s) end) (f .long) ∙ length-good (length s)) i
-
-pub record-good : (s : List ℕ) → Sound s → record-fault s .code ≡ 0
-record-good s h = ap (λ (f : Fault). f .code) (ends-at-clash s (ap (λ (f : Fault). f .code) (header-good s (h .framed))) (h .cubes)) ∙ h .apart
 
 -- the reader's answer to an accepted record
 pub reading-accepted : (s : List ℕ) → record-fault s .code ≡ 0 → reading s ≡ with-counts (accepted 3 (length s)) (inputs s) (on-count s) (off-count s)

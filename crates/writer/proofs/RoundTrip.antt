@@ -12,8 +12,8 @@ use Rattle.answers.specs.declared.Fault.{Fault}
 use Rattle.answers.specs.Answers.{accepted, fits, Delivered}
 use Rattle.answers.proofs.Faults.{or-else-next, or-else-both}
 use Rattle.answers.proofs.Stores.{fits-enough, Stands, delivered-stands}
-use Rattle.records.specs.Records.{inputs, on-count, off-count, off-at, on-list, off-list, record-fault, cubes-fault, clash-fault, first-fault, cube-code, clash-code, reading, with-counts}
-use Rattle.records.proofs.Frame.{Framed, record-sound, record-good, reading-accepted}
+use Rattle.records.specs.Records.{inputs, on-count, off-count, off-at, on-list, off-list, record-fault, cubes-fault, first-fault, cube-code, clash-code, reading, with-counts}
+use Rattle.records.proofs.Frame.{Framed, record-sound, header-good, ends-at-clash, reading-accepted}
 use Rattle.records.proofs.Cubes.{first-each, each-first}
 use Rattle.records.proofs.Meaning.{each-on, each-off}
 use Rattle.writer.specs.Writing.{record-bytes, cubes, writing}
@@ -121,22 +121,26 @@ module _ (n : ℕ) (on off : List ℕ) (sized : Sized n on off) where
         long = omega arith;
       }
 
-  module _ (right : Right n on off) where
+  module _ (on-cubes : Each (λ P N. cube-code n P N ≡ 0) on) (off-cubes : Each (λ P N. cube-code n P N ≡ 0) off) where
     cubes-again : cubes-fault (record-bytes n on off) .code ≡ 0
     unfolding record-bytes
-    cubes-again = ap (λ (f : Fault). f .code) (each-first (cube-code n) (on ++ off) 5 (each-join _ on off (sized .on-even) (right .on-cubes) (right .off-cubes)))
+    cubes-again = ap (λ (f : Fault). f .code) (each-first (cube-code n) (on ++ off) 5 (each-join _ on off (sized .on-even) on-cubes off-cubes))
 
-    apart-again : clash-fault (record-bytes n on off) .code ≡ 0
+    -- so the record can have no fault but a shared pattern
+    pub clash-again : record-fault (record-bytes n on off) ≡ first-fault (clash-code n off) on 5
     unfolding record-bytes
-    apart-again =
-        ap₂ (λ (on′ off′ : List ℕ). first-fault (clash-code n off′) on′ 5 .code) on-again off-again
-        ∙ ap (λ (f : Fault). f .code) (each-first (clash-code n off) on 5 (right .apart))
+    clash-again =
+        ends-at-clash (record-bytes n on off) (ap (λ (f : Fault). f .code) (header-good (record-bytes n on off) framed-again)) cubes-again
+        ∙ ap₂ (λ (on′ off′ : List ℕ). first-fault (clash-code n off′) on′ 5) on-again off-again
+
+  module _ (right : Right n on off) where
+    sound-again : record-fault (record-bytes n on off) .code ≡ 0
+    sound-again = ap (λ (f : Fault). f .code) (clash-again (right .on-cubes) (right .off-cubes) ∙ each-first (clash-code n off) on 5 (right .apart))
 
     -- accepted, with the same n and counts
     pub read-again : reading (record-bytes n on off) ≡ with-counts (accepted 3 (length (record-bytes n on off))) n (length on / 2) (length off / 2)
     unfolding record-bytes
-    read-again =
-        reading-accepted (record-bytes n on off) (record-good (record-bytes n on off) (record { framed = framed-again; cubes = cubes-again; apart = apart-again }))
+    read-again = reading-accepted (record-bytes n on off) sound-again
 
 -- in all: where the writer accepts, its bytes are read as the n and the lists that it was given
 pub record Same (n : ℕ) (on off s : List ℕ) : Type 0 where

@@ -53,7 +53,7 @@ fn check_cubes(n: u8, on: &[u8], off: &[u8]) -> Answer
 }
 
 // Stores the record at the buffer's start.
-fn store(n: u8, on: &[u8], off: &[u8], out: &mut [u8])
+pub fn store(n: u8, on: &[u8], off: &[u8], out: &mut [u8])
     requires { ⌜ length (now on) ≤ 128 ⌝ }
     requires { ⌜ length (now off) ≤ 128 ⌝ }
     requires { ⌜ 5 + length (now on) + length (now off) ≤ length (now out) ⌝ }

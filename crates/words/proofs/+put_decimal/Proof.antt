@@ -8,14 +8,14 @@ use borrow.Fn.Kinds.{In}
 use borrow.Fn.PlainCycle.{Measures, is, falls, and}
 use lib.ListN.{length}
 use lib.Seq.{sets}
-use Rattle.lines.specs.Lines.{decimal}
-use Rattle.lines.proofs.Texts.{behind, decimal-short, decimal-long, long-length}
-use Rattle.lines.proofs.put_decimal.Reads as reads
-use Rattle.lines.proofs.put_decimal.Kinds as kinds
-use Rattle.lines.proofs.+put_decimal.Lts-put_decimal as lts
-use Rattle.lines.proofs.digit.Reads as digit-reads
-use Rattle.lines.proofs.+put_decimal.{statement}
-use Rattle.lines.proofs.+put_decimal.Tie.{close}
+use Rattle.words.specs.Words.{decimal}
+use Rattle.words.proofs.Decimals.{behind, decimal-short, decimal-long, long-length}
+use Rattle.words.proofs.put_decimal.Reads as reads
+use Rattle.words.proofs.put_decimal.Kinds as kinds
+use Rattle.words.proofs.+put_decimal.Lts-put_decimal as lts
+use Rattle.words.proofs.digit.Reads as digit-reads
+use Rattle.words.proofs.+put_decimal.{statement}
+use Rattle.words.proofs.+put_decimal.Tie.{close}
 
 abbrev μ : Measures 1 kinds.ps ℕ
 μ κs a = a .0

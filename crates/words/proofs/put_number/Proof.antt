@@ -2,10 +2,10 @@
 use mathlib.Core.List.{[], _∷_}
 use native.Mathlib.Omega.{arith}
 use borrow.Author.Needs.{needs}
-use Rattle.lines.specs.Lines.{decimal}
-use Rattle.lines.proofs.Texts.{behind}
-use Rattle.lines.proofs.put_number.Statement.{statement}
-use Rattle.lines.proofs.put_number.Tie as tie
+use Rattle.words.specs.Words.{decimal}
+use Rattle.words.proofs.Decimals.{behind}
+use Rattle.words.proofs.put_number.Statement.{statement}
+use Rattle.words.proofs.put_number.Tie as tie
 
 returns : tie.Need-returns
 returns c =

@@ -1,0 +1,9 @@
+pub mod First
+pub mod Knows
+pub mod Scanned
+pub mod Meaning
+pub mod Delivery
+pub mod RoundTrip
+pub mod Export
+pub mod Places
+pub mod Settled

@@ -1,0 +1,4 @@
+pub mod Scans
+pub mod Pieces
+pub mod Decimals
+pub mod Settled

@@ -1,0 +1,127 @@
+-- Scans of a text and of words: what remains from the place reached on decides.
+use Prim.Native.Nat.{ℕ, suc, _+_, _*_, _-_, _≤_, _<_, min}
+use mathlib.Core.Path.{_≡_, refl, sym, ap, ap₂, _∙_}
+use mathlib.Core.Bool.{Bool, true, false, cond, _&&_}
+use mathlib.Core.List.{List, [], _∷_}
+use native.Mathlib.Numerals.{add-one}
+use native.Mathlib.Omega.{arith}
+use borrow.Author.Tests.{eq-eqb, ne-eqb, lt-ltb}
+use lib.Dec.{eqb}
+use lib.ListN.{length, getD, drop, drop-of-length-le}
+use lib.Seq.{drop-cons}
+use Rattle.bits.proofs.Tests.{not-passed}
+use Rattle.rules.specs.Lists.{passed-over, each-in, same}
+use Rattle.rules.proofs.Lists.{same-is}
+use Rattle.words.specs.Words.{is-digit, is-number, read-on, value}
+use Rattle.words.specs.Counted.{most, counted}
+
+-- what stands at a place, and what comes after it
+pub from-here : (s : List ℕ) (i : ℕ) → i < length s → drop i s ≡ getD s i 0 ∷ drop (i + 1) s
+from-here s i h = drop-cons s i 0 h ∙ ap (λ (k : ℕ). getD s i 0 ∷ drop k s) (sym (add-one i))
+
+-- ---- the first character that passes a test
+
+module _ (p : ℕ → Bool) (s : List ℕ) (at : ℕ) where
+  -- the scan from `at` has come to `i`, and none before it passes
+  pub record Scan (i : ℕ) : Type 0 where
+    pub within : i ≤ length s
+    pub rest : i + passed-over p (drop i s) ≡ at + passed-over p (drop at s)
+
+  pub scan-starts : at ≤ length s → Scan at
+  scan-starts h = record { within = h; rest = refl }
+
+  module _ (i : ℕ) (w : Scan i) where
+    scan-step : i < length s → passed-over p (drop i s) ≡ cond (p (getD s i 0)) 0 (suc (passed-over p (drop (i + 1) s)))
+    unfolding passed-over
+    scan-step h = ap (passed-over p) (from-here s i h)
+
+    pub scan-found : i < length s → p (getD s i 0) ≡ true → i ≡ at + passed-over p (drop at s)
+    scan-found h e = omega (arith, w .rest, simp e at (scan-step h))
+
+    pub scan-goes : i < length s → p (getD s i 0) ≡ false → Scan (i + 1)
+    scan-goes h e = record { within = omega arith; rest = omega (arith, w .rest, simp e at (scan-step h)) }
+
+    pub scan-ends : length s ≤ i → i ≡ at + passed-over p (drop at s)
+    unfolding passed-over
+    scan-ends h = omega (arith, w .rest, ap (passed-over p) (drop-of-length-le s h))
+
+-- ---- two words compared
+
+module _ (w v : List ℕ) where
+  pub record Alike (i : ℕ) : Type 0 where
+    pub within : i ≤ length w
+    pub long : length w ≡ length v
+    pub rest : same (drop i w) (drop i v) ≡ same w v
+
+  pub alike-starts : length w ≡ length v → Alike 0
+  alike-starts h = record { within = omega arith; long = h; rest = refl }
+
+  pub other-length : (length w ≡ length v → ⊥) → same w v ≡ false
+  other-length h = not-passed (same w v) (λ e. h (ap length (same-is w v e)))
+
+  module _ (i : ℕ) (k : Alike i) where
+    alike-step : i < length w → same w v ≡ eqb (getD w i 0) (getD v i 0) && same (drop (i + 1) w) (drop (i + 1) v)
+    unfolding same
+    alike-step h = sym (k .rest) ∙ ap₂ same (from-here w i h) (from-here v i (omega arith))
+
+    pub alike-not : i < length w → (getD w i 0 ≡ getD v i 0 → ⊥) → same w v ≡ false
+    alike-not h e = alike-step h ∙ simp (ne-eqb _ _ e)
+
+    pub alike-goes : i < length w → getD w i 0 ≡ getD v i 0 → Alike (i + 1)
+    alike-goes h e = record { within = omega arith; long = k .long; rest = sym (alike-step h ∙ simp (eq-eqb _ _ e)) }
+
+    pub alike-ends : length w ≤ i → same w v ≡ true
+    unfolding same
+    alike-ends h = sym (k .rest) ∙ ap₂ same (drop-of-length-le w h) (drop-of-length-le v {i = i} (omega (arith, k .long)))
+
+-- ---- a number read
+
+-- a number at or above a bound stays there, so it may be cut at any time
+pub cut-early : (m x : ℕ) (ds : List ℕ) → min (read-on x ds) m ≡ min (read-on (min x m) ds) m
+unfolding read-on
+cut-early m x [] = omega arith
+cut-early m x (d ∷ ds) =
+    let both : min (10 * x + (d - 48)) m ≡ min (10 * min x m + (d - 48)) m = omega arith in
+    cut-early m (10 * x + (d - 48)) ds ∙ ap (λ (y : ℕ). min (read-on y ds) m) both ∙ sym (cut-early m (10 * min x m + (d - 48)) ds)
+
+pub no-number : (w : List ℕ) → is-number w ≡ false → counted w ≡ record { is = false; value = 0 }
+unfolding counted
+no-number w e = simp e
+
+module _ (w : List ℕ) where
+  -- the characters before `i` are digits, and `x` is their value, cut
+  pub record Reading (x i : ℕ) : Type 0 where
+    pub within : i ≤ length w
+    pub small : x ≤ most
+    pub digits : each-in is-digit w ≡ each-in is-digit (drop i w)
+    pub rest : min (value w) most ≡ min (read-on x (drop i w)) most
+
+  pub reading-starts : Reading 0 0
+  reading-starts = record { within = omega arith; small = omega arith; digits = refl; rest = refl }
+
+  module _ (x i : ℕ) (k : Reading x i) where
+    digits-step : i < length w → each-in is-digit w ≡ is-digit (getD w i 0) && each-in is-digit (drop (i + 1) w)
+    unfolding each-in
+    digits-step h = k .digits ∙ ap (each-in is-digit) (from-here w i h)
+
+    pub reading-not : i < length w → is-digit (getD w i 0) ≡ false → counted w ≡ record { is = false; value = 0 }
+    reading-not h e = no-number w (simp (digits-step h, e, lt-ltb 0 (length w) (omega arith)))
+
+    pub reading-goes : i < length w → is-digit (getD w i 0) ≡ true → (y : ℕ) → y ≡ min (10 * x + (getD w i 0 - 48)) most → Reading y (i + 1)
+    unfolding read-on
+    reading-goes h e y is =
+        record {
+          within = omega arith;
+          small = omega arith;
+          digits = digits-step h ∙ simp e;
+          rest =
+              k .rest ∙ ap (λ (l : List ℕ). min (read-on x l) most) (from-here w i h) ∙ cut-early most (10 * x + (getD w i 0 - 48)) (drop (i + 1) w)
+              ∙ ap (λ (z : ℕ). min (read-on z (drop (i + 1) w)) most) (sym is);
+        }
+
+    pub reading-ends : 0 < length w → length w ≤ i → counted w ≡ record { is = true; value = x }
+    unfolding counted read-on each-in
+    reading-ends m h =
+        let none = drop-of-length-le w h in
+        let all : min (value w) most ≡ x = k .rest ∙ ap (λ (l : List ℕ). min (read-on x l) most) none ∙ omega (arith, k .small) in
+        simp (lt-ltb 0 (length w) m, k .digits ∙ ap (each-in is-digit) none, all)

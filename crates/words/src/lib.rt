@@ -1,0 +1,192 @@
+// Text as bytes: where lines and words end, and numbers in decimal, read and written.
+ghost use mathlib.Core.Path.{_≡_};
+ghost use mathlib.Core.Bool.{not, _||_};
+ghost use mathlib.Core.List.{_++_, _∷_, []};
+ghost use Prim.Native.Nat.{_+_, _*_, _≤_, _<_, min};
+ghost use lib.ListN.{length, drop};
+ghost use lib.Seq.{sets};
+ghost use Rattle.rules.specs.Lists.{passed-over, same as same-list};
+ghost use Rattle.words.specs.Words.{is-lf, is-hash, is-blank, digit as glyph, decimal};
+ghost use Rattle.words.specs.Counted.{most, counted};
+
+// A number that was read, or none. One beyond the largest that is told apart is told as that one.
+pub struct Counted {
+    pub is: bool,
+    pub value: u64,
+}
+
+// Where the line ends that `at` lies in: at its LF, or at the text's end.
+pub fn line_end(text: &[u8], at: usize) -> usize
+    requires { ⌜ at ≤ length (now text) ⌝ }
+    ensures { λ r. ⌜ r ≡ at + passed-over is-lf (drop at (now (text .entry))) ⌝ }
+{
+    let mut i = at;
+    while i < text.len() {
+        if text[i] == b'\n' {
+            return i;
+        }
+        i += 1;
+    }
+    i
+}
+
+// Where the line's comment begins, if it has one, or else where the line ends.
+pub fn bare_end(text: &[u8], at: usize) -> usize
+    requires { ⌜ at ≤ length (now text) ⌝ }
+    ensures { λ r. ⌜ r ≡ at + passed-over (λ c. is-lf c || is-hash c) (drop at (now (text .entry))) ⌝ }
+{
+    let mut i = at;
+    while i < text.len() {
+        let c = text[i];
+        if c == b'\n' {
+            return i;
+        }
+        if c == b'#' {
+            return i;
+        }
+        i += 1;
+    }
+    i
+}
+
+// Whether a character is a blank.
+fn blank(c: u8) -> bool
+    ensures { λ r. ⌜ r ≡ is-blank c ⌝ }
+{
+    if c == b' ' {
+        return true;
+    }
+    if c == b'\t' {
+        return true;
+    }
+    c == b'\r'
+}
+
+// The next character from `at` on that is no blank, and the next that is one; else the line's end.
+pub fn word_start(line: &[u8], at: usize) -> usize
+    requires { ⌜ at ≤ length (now line) ⌝ }
+    ensures { λ r. ⌜ r ≡ at + passed-over (λ c. not (is-blank c)) (drop at (now (line .entry))) ⌝ }
+{
+    let mut i = at;
+    while i < line.len() {
+        if !blank(line[i]) {
+            return i;
+        }
+        i += 1;
+    }
+    i
+}
+
+pub fn word_end(line: &[u8], at: usize) -> usize
+    requires { ⌜ at ≤ length (now line) ⌝ }
+    ensures { λ r. ⌜ r ≡ at + passed-over is-blank (drop at (now (line .entry))) ⌝ }
+{
+    let mut i = at;
+    while i < line.len() {
+        if blank(line[i]) {
+            return i;
+        }
+        i += 1;
+    }
+    i
+}
+
+// Whether two words are the same.
+pub fn same(w: &[u8], v: &[u8]) -> bool
+    ensures { λ r. ⌜ r ≡ same-list (now (w .entry)) (now (v .entry)) ⌝ }
+{
+    if w.len() != v.len() {
+        return false;
+    }
+    let mut i = 0;
+    while i < w.len() {
+        if w[i] != v[i] {
+            return false;
+        }
+        i += 1;
+    }
+    true
+}
+
+// A tenth of the largest number that is told apart, which no count of lines comes near to.
+const TENTH: u64 = 1_844_674_407_370_955_161;
+
+// Reads a word as a number.
+pub fn count(w: &[u8]) -> Counted
+    ensures { λ r. ⌜ r ≡ counted (now (w .entry)) ⌝ }
+{
+    if w.len() == 0 {
+        return Counted {
+            is: false,
+            value: 0,
+        };
+    }
+    let mut value = 0;
+    let mut i = 0;
+    while i < w.len() {
+        let c = w[i];
+        if c < b'0' {
+            return Counted {
+                is: false,
+                value: 0,
+            };
+        }
+        if b'9' < c {
+            return Counted {
+                is: false,
+                value: 0,
+            };
+        }
+        value = then_digit(value, c - b'0');
+        i += 1;
+    }
+    Counted { is: true, value }
+}
+
+// The number with one digit more, up to the largest.
+fn then_digit(value: u64, d: u8) -> u64
+    requires { ⌜ d < 10 ⌝ }
+    ensures { λ r. ⌜ r ≡ min (10 * value + d) most ⌝ }
+{
+    if TENTH <= value {
+        return 10 * TENTH;
+    }
+    10 * value + d as u64
+}
+
+// A digit in capital hex.
+pub fn digit(d: u8) -> u8
+    requires { ⌜ d < 16 ⌝ }
+    ensures { λ r. ⌜ r ≡ glyph d ⌝ }
+{
+    if d < 10 {
+        return b'0' + d;
+    }
+    b'A' + (d - 10)
+}
+
+// Puts a number into the buffer from `start` on, in decimal, and says where it ends: the digits before the last by this function.
+pub fn put_decimal(x: u64, out: &mut [u8], start: usize) -> usize
+    requires { ⌜ start + length (decimal x) ≤ length (now out) ⌝ }
+    ensures { λ r. ⌜ r ≡ start + length (decimal x) ⌝ }
+    ensures { λ r. ⌜ now (out .exit) ≡ sets (now (out .entry)) start (decimal x) ⌝ }
+{
+    if x < 10 {
+        out[start] = digit(x as u8);
+        return start + 1;
+    }
+    let last = put_decimal(x / 10, out, start);
+    out[last] = digit((x % 10) as u8);
+    last + 1
+}
+
+// A number, and the character that follows it.
+pub fn put_number(x: u64, next: u8, out: &mut [u8], start: usize) -> usize
+    requires { ⌜ start + length (decimal x) < length (now out) ⌝ }
+    ensures { λ r. ⌜ r ≡ start + length (decimal x) + 1 ⌝ }
+    ensures { λ r. ⌜ now (out .exit) ≡ sets (now (out .entry)) start (decimal x ++ (next ∷ [])) ⌝ }
+{
+    let end = put_decimal(x, out, start);
+    out[end] = next;
+    end + 1
+}
