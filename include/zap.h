@@ -1,5 +1,5 @@
 /*
- * The matcher, the checker, the summary and the writer, for C and C++.
+ * The matcher, the checker, the summary, the writer and tables, for C and C++.
  *
  * `rt staticlib host` writes target/staticlib/libhost.a, which holds them. How
  * functions and claims are written, byte by byte, is told in docs/FORMATS.md.
@@ -57,13 +57,31 @@ uint64_t zap_write(uint8_t n, const uint8_t *on, size_t on_len, const uint8_t *o
                    size_t off_len, uint8_t *out, size_t out_len);
 
 /*
+ * Reads an espresso table with one output into a function record, written at the start
+ * of `out`, and nothing after it; if the call refuses, no byte of `out` changes. 261
+ * bytes are enough. In a refusal record 1 is the table: 20, 21, 22 and here also 3
+ * tell the first faulty line, counted from 1; 4 and 7 a place in the record that the
+ * table would give, as of zap_match.
+ */
+uint64_t zap_read_table(const uint8_t *text, size_t text_len, uint8_t *out, size_t out_len);
+
+/*
+ * Writes the table of a function record at the start of `out`, and nothing after it,
+ * no zero byte either; if the call refuses, no byte of `out` changes. Read again, it
+ * gives the record's own bytes. No table is longer than 1,437 bytes, and code 18 tells
+ * the length needed.
+ */
+uint64_t zap_write_table(const uint8_t *record, size_t record_len, uint8_t *out, size_t out_len);
+
+/*
  * Each answer is one number: code + 256 kind + 65,536 record + 16,777,216 place.
  *
  * Accepted: code 0, record 0, and the place is the length of what was written, else of
  * the claim, else of the record read.
- * Refused: kind 0, and record and place say where the fault is. Places count from 0. A
- * place has 40 bits; only the length that code 19 tells could need more, and it is
- * then told as the largest that fits, 1,099,511,627,775.
+ * Refused: kind 0, and record and place say where the fault is. Places count from 0,
+ * the lines of a table from 1. A place has 40 bits; only the length that code 19 tells
+ * and the line of a table could need more, and are then told as the largest that fits,
+ * 1,099,511,627,775.
  */
 static inline unsigned zap_code(uint64_t answer) { return (unsigned)(answer & 255); }
 static inline unsigned zap_kind(uint64_t answer) { return (unsigned)((answer >> 8) & 255); }
@@ -74,12 +92,12 @@ enum zap_kinds {
     ZAP_REFUSED = 0,
     ZAP_MATCH = 1,
     ZAP_NO_MATCH = 2,
-    ZAP_ALL_ELSE = 3 /* from zap_summary and zap_write */
+    ZAP_ALL_ELSE = 3 /* from the calls that neither find nor check a claim */
 };
 
 enum zap_records {
     ZAP_OF_NONE = 0,
-    ZAP_OF_F = 1,     /* of zap_write: the on list */
+    ZAP_OF_F = 1,     /* of zap_write: the on list; of zap_read_table: the table */
     ZAP_OF_G = 2,     /* of zap_write: the off list */
     ZAP_OF_CLAIM = 3,
     ZAP_OF_OUT = 4
@@ -117,7 +135,13 @@ enum zap_codes {
     ZAP_BUFFER_SHORT = 18,   /* the output buffer is too short: the length needed */
 
     /* From zap_write alone. */
-    ZAP_ODD_LIST = 19        /* a cube list has an odd length: that length */
+    ZAP_ODD_LIST = 19,       /* a cube list has an odd length: that length */
+
+    /* From zap_read_table alone, where 3 is told by line too. */
+    ZAP_BAD_LINE = 20,       /* malformed line or repeated keyword: the line, from 1 */
+    ZAP_BAD_KEYWORD = 21,    /* unknown keyword, one missing at the first term or at .e, or
+                                no .e: the line, from 1 */
+    ZAP_BAD_TERM_COUNT = 22  /* at .e, the term count differs from .p: the line, from 1 */
 };
 
 #ifdef __cplusplus

@@ -1,4 +1,6 @@
-//! The functions and claims that both sides work on, made with fixed seeds.
+//! The functions, claims and tables that both sides work on, made with fixed seeds.
+
+pub mod tables;
 
 use crate::plain;
 use crate::plain::function::Cube;

@@ -6,12 +6,13 @@
 //!
 //! - `zap_calls`: the functions under test, taken from the static archives;
 //! - `plain`: the same in plain Rust, as one would write it without proofs;
-//! - `inputs`: functions and claims, made with fixed seeds;
+//! - `inputs`: functions, claims and tables, made with fixed seeds;
 //! - `table`: both sides run in turn, and the tables of the best times.
 //!
 //! The checker's rows are told in bytes of the claim, the matcher's in nodes of the
 //! search: prefixes that it looks for a dead pair in. Nodes are counted apart from
-//! the timed runs. A refusal goes through them twice, to measure and to write.
+//! the timed runs. A refusal goes through them twice, to measure and to write. The
+//! tables' rows are told in bytes of their text, read or written.
 
 mod inputs;
 mod plain;
@@ -20,19 +21,28 @@ mod table;
 use std::env;
 use std::process::ExitCode;
 
+use inputs::tables::{large_tables, small_tables, Call, Input, Tables};
 use inputs::{Claim, Pair, Pairs};
 use table::{Row, Side, Table};
 use zap_calls as calls;
 
 fn main() -> ExitCode {
     let words: Vec<String> = env::args().skip(1).collect();
-    // Both tables, even after one in which something differs.
-    let all = |ran: [bool; 2]| ran == [true; 2];
+    // Every table, even after one in which something differs.
+    let all = |ran: [bool; 3]| ran == [true; 3];
     let same = match words.iter().map(String::as_str).collect::<Vec<&str>>()[..] {
-        [] => all([checker(inputs::large_claims()), matcher(inputs::large_pairs())]
-            .map(|table| table::timed(&table))),
-        ["--smoke"] => all([checker(inputs::small_claims()), matcher(inputs::small_pairs())]
-            .map(|table| table::compared(&table))),
+        [] => all([
+            checker(inputs::large_claims()),
+            matcher(inputs::large_pairs()),
+            tables(large_tables()),
+        ]
+        .map(|table| table::timed(&table))),
+        ["--smoke"] => all([
+            checker(inputs::small_claims()),
+            matcher(inputs::small_pairs()),
+            tables(small_tables()),
+        ]
+        .map(|table| table::compared(&table))),
         _ => {
             eprintln!("usage: zap-bench [--smoke]");
             false
@@ -65,7 +75,8 @@ fn matcher(inputs: Vec<Pairs>) -> Table {
         let Pairs { name, pairs } = input;
         let side = |find: fn(&[u8], &[u8], &mut [u8]) -> u64| -> Side {
             let pairs = pairs.clone();
-            Box::new(move |out| each(&pairs, find, out))
+            let one = move |Pair { f, g, .. }: &Pair, out: &mut [u8]| find(f, g, out);
+            Box::new(move |out| each(&pairs, |pair| pair.room, one, out))
         };
         let (ours, plain) = (side(calls::find_match), side(plain::find_match));
         let amount = pairs.iter().map(|pair| plain::matcher::nodes(&pair.f, &pair.g)).sum();
@@ -75,14 +86,41 @@ fn matcher(inputs: Vec<Pairs>) -> Table {
     Table { unit: "nodes", rows: inputs.into_iter().map(row).collect() }
 }
 
-/// One pair after another, each with its own part of the slice: a number that
-/// all answers have their share in.
-fn each(pairs: &[Pair], find: fn(&[u8], &[u8], &mut [u8]) -> u64, out: &mut [u8]) -> u64 {
+/// The tables' rows: one for several texts or records.
+fn tables(inputs: Vec<Tables>) -> Table {
+    let row = |input: Tables| {
+        let Tables { name, call, inputs, times } = input;
+        let side = |make: fn(&[u8], &mut [u8]) -> u64| -> Side {
+            let inputs = inputs.clone();
+            let one = move |input: &Input, out: &mut [u8]| make(&input.bytes, out);
+            Box::new(move |out| each(&inputs, |input| input.room, one, out))
+        };
+        let room = inputs.iter().map(|input| input.room).sum();
+        let (what, amount, ours, plain) = match call {
+            Call::Read => {
+                let amount = inputs.iter().map(|input| input.bytes.len()).sum();
+                ("read", amount, side(calls::read_table), side(plain::read_table))
+            }
+            Call::Write => ("write", room, side(calls::write_table), side(plain::write_table)),
+        };
+        Row { name: format!("{what}, {name}"), amount, room, times, ours, plain }
+    };
+    Table { unit: "bytes", rows: inputs.into_iter().map(row).collect() }
+}
+
+/// One input after another, each with its own part of the slice: a number that all
+/// answers have their share in.
+fn each<T>(
+    inputs: &[T],
+    room: impl Fn(&T) -> usize,
+    call: impl Fn(&T, &mut [u8]) -> u64,
+    out: &mut [u8],
+) -> u64 {
     let mut rest = out;
     let mut answers: u64 = 0;
-    for Pair { f, g, room } in pairs {
-        let (part, more) = rest.split_at_mut(*room);
-        answers = answers.rotate_left(1) ^ find(f, g, part);
+    for input in inputs {
+        let (part, more) = rest.split_at_mut(room(input));
+        answers = answers.rotate_left(1) ^ call(input, part);
         rest = more;
     }
     answers

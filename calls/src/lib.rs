@@ -8,6 +8,12 @@
 /// No claim is longer, so a buffer of this length holds every answer of `find_match`.
 pub const LONGEST_CLAIM: usize = 75_323_621;
 
+/// No function record is longer: 64 and 64 cubes.
+pub const LONGEST_RECORD: usize = 261;
+
+/// No table that `write_table` writes is longer: 8 inputs, 128 terms.
+pub const LONGEST_TABLE: usize = 1_437;
+
 /// The four numbers of an answer.
 #[derive(Clone, Copy, Debug, PartialEq, Eq)]
 pub struct Answer {
@@ -62,6 +68,20 @@ mod foreign {
             on_len: usize,
             off: *const u8,
             off_len: usize,
+            out: *mut u8,
+            out_len: usize,
+        ) -> u64;
+
+        pub fn zap_read_table(
+            text: *const u8,
+            text_len: usize,
+            out: *mut u8,
+            out_len: usize,
+        ) -> u64;
+
+        pub fn zap_write_table(
+            record: *const u8,
+            record_len: usize,
             out: *mut u8,
             out_len: usize,
         ) -> u64;
@@ -125,6 +145,19 @@ pub fn write(n: u8, on: &[u8], off: &[u8], out: &mut [u8]) -> u64 {
     unsafe {
         foreign::zap_write(n, on.as_ptr(), on_len, off.as_ptr(), off_len, out.as_mut_ptr(), len)
     }
+}
+
+/// Reads an espresso table: the packed answer, and its record at the start of `out`.
+pub fn read_table(text: &[u8], out: &mut [u8]) -> u64 {
+    let len = out.len();
+    unsafe { foreign::zap_read_table(text.as_ptr(), text.len(), out.as_mut_ptr(), len) }
+}
+
+/// Writes a record as an espresso table: the packed answer, and the text at the start
+/// of `out`.
+pub fn write_table(record: &[u8], out: &mut [u8]) -> u64 {
+    let len = out.len();
+    unsafe { foreign::zap_write_table(record.as_ptr(), record.len(), out.as_mut_ptr(), len) }
 }
 
 /// Reads a record: the packed answer, and n, a, b put into the slice as `summary`

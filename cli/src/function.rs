@@ -2,6 +2,8 @@
 
 use zap_calls::Answer;
 
+use crate::input::Taken;
+
 /// Two masks: it holds the patterns in which every input of `pos` is 1 and every
 /// input of `neg` is 0.
 #[derive(Clone, Copy, Debug, PartialEq, Eq)]
@@ -74,8 +76,16 @@ pub struct Function {
 }
 
 impl Function {
-    /// The record's function, if the archive accepts it; its answer in either case.
-    pub fn read(record: &[u8]) -> (Answer, Option<Function>) {
+    /// What was taken for a function, if the archive accepts it; its answer in either
+    /// case.
+    pub fn of(taken: &Taken) -> (Answer, Option<Function>) {
+        match &taken.refused {
+            Some(table) => (table.answer, None),
+            None => Function::read(&taken.bytes),
+        }
+    }
+
+    fn read(record: &[u8]) -> (Answer, Option<Function>) {
         let mut figures = [0; 3];
         let answer = Answer::of(zap_calls::summary(record, &mut figures));
         if answer.code != 0 {

@@ -1,9 +1,10 @@
-//! A file as bytes: binary, or hex text.
+//! A file as bytes: binary, hex text, or a function's table.
 //!
 //! A file that begins with a mark is binary. No hex text does: each mark has a letter
-//! that is no hex digit. Other text is hex, and a fault in it is told by line and
-//! column. Bytes that are no text are binary, and the archive says what is wrong with
-//! them.
+//! that is no hex digit. A file that begins with a keyword, a dot and a letter, is a
+//! table; no hex text does that either. Other text is hex, or else a table too, and a
+//! fault in it is told by its line. Bytes that are no text are binary. What is wrong
+//! with a table or with bytes, the archive says.
 
 use std::borrow::Cow;
 use std::ffi::{OsStr, OsString};
@@ -12,12 +13,14 @@ use std::io::{self, Read};
 use std::path::Path;
 
 use crate::output::{reason, trouble, Trouble};
+use crate::table::{self, Refused};
 
 #[derive(Clone, Copy, Debug, PartialEq, Eq)]
 pub enum Form {
     Empty,
     Binary,
     Hex,
+    Table,
 }
 
 impl Form {
@@ -26,6 +29,7 @@ impl Form {
             Form::Empty => "empty",
             Form::Binary => "binary",
             Form::Hex => "hex",
+            Form::Table => "table",
         }
     }
 }
@@ -35,7 +39,10 @@ impl Form {
 pub struct Taken {
     pub name: String,
     pub form: Form,
+    /// Of a table, its record; none if it is refused.
     pub bytes: Vec<u8>,
+    /// A table that the archive has refused.
+    pub refused: Option<Refused>,
 }
 
 impl Taken {
@@ -43,8 +50,21 @@ impl Taken {
     pub fn described(&self) -> String {
         match self.form {
             Form::Empty => format!("{}, which is empty", self.name),
+            Form::Table => format!("{}, taken for a table", self.name),
             form => format!("{}, taken for {}", self.name, form.name()),
         }
+    }
+
+    fn of(name: String, form: Form, bytes: Vec<u8>) -> Taken {
+        Taken { name, form, bytes, refused: None }
+    }
+
+    fn table(name: String, text: Vec<u8>, no_hex: Option<String>) -> Taken {
+        let (bytes, refused) = match table::read(text, no_hex) {
+            Ok(record) => (record, None),
+            Err(refused) => (vec![], Some(refused)),
+        };
+        Taken { name, form: Form::Table, bytes, refused }
     }
 }
 
@@ -56,9 +76,56 @@ pub fn name_of(path: &OsStr) -> String {
     }
 }
 
-/// A file taken for what it is; `-` is standard input.
-pub fn take(path: &OsStr) -> Result<Taken, Trouble> {
-    taken(name_of(path), read(path)?)
+/// A function's file; `-` is standard input. Text that is neither hex nor begins as a
+/// table does is a table all the same, unless its name says hex.
+pub fn take_function(path: &OsStr) -> Result<Taken, Trouble> {
+    let name = name_of(path);
+    match Content::of(read(path)?) {
+        Content::Bytes(form, bytes) => Ok(Taken::of(name, form, bytes)),
+        Content::Table(text) => Ok(Taken::table(name, text, None)),
+        Content::NoHex(text, fault) => match Named::of(path) {
+            Named::Function => no_hex(&name, &fault),
+            Named::Table => Ok(Taken::table(name, text, None)),
+            Named::Anything => Ok(Taken::table(name, text, Some(fault.words()))),
+        },
+    }
+}
+
+/// A claim's file, which is no table.
+pub fn take_claim(path: &OsStr) -> Result<Taken, Trouble> {
+    let name = name_of(path);
+    match Content::of(read(path)?) {
+        Content::Bytes(form, bytes) => Ok(Taken::of(name, form, bytes)),
+        Content::Table(_) => {
+            trouble(format!("{name} begins as a table does, and a claim is wanted here"))
+        }
+        Content::NoHex(_, fault) => no_hex(&name, &fault),
+    }
+}
+
+fn no_hex<T>(name: &str, fault: &Fault) -> Result<T, Trouble> {
+    let why = "taken for hex, as it is text without a mark at its start";
+    trouble(format!("{name}: {why}; {}", fault.words()))
+}
+
+/// What a file's name says that it is.
+#[derive(Clone, Copy, Debug, PartialEq, Eq)]
+enum Named {
+    /// By its bytes, or by their hex.
+    Function,
+    Table,
+    Anything,
+}
+
+impl Named {
+    fn of(path: &OsStr) -> Named {
+        let end = Path::new(path).extension().unwrap_or_default().to_ascii_lowercase();
+        match end.to_str() {
+            Some("hex" | "fn") => Named::Function,
+            Some("pla" | "tbl") => Named::Table,
+            _ => Named::Anything,
+        }
+    }
 }
 
 fn read(path: &OsStr) -> Result<Vec<u8>, Trouble> {
@@ -77,25 +144,41 @@ fn unread(path: &OsStr, why: &io::Error) -> Trouble {
     Trouble(format!("{} cannot be read: {}", name_of(path), reason(why)))
 }
 
-fn taken(name: String, bytes: Vec<u8>) -> Result<Taken, Trouble> {
-    let binary = |name, bytes| Ok(Taken { name, form: Form::Binary, bytes });
-    if bytes.is_empty() {
-        return Ok(Taken { name, form: Form::Empty, bytes });
-    }
-    if marked_as(&bytes).is_some() {
-        return binary(name, bytes);
-    }
-    let Some(text) = text_of(&bytes) else { return binary(name, bytes) };
-    match from_hex(&text) {
-        Ok(bytes) => Ok(Taken { name, form: Form::Hex, bytes }),
-        // A comment may be written in any way, the rest of a text not.
-        Err(_) if std::str::from_utf8(&text).is_err() => {
-            drop(text);
-            binary(name, bytes)
+/// What is in a file.
+#[derive(Debug)]
+enum Content {
+    Bytes(Form, Vec<u8>),
+    /// Text that begins as a table does.
+    Table(Vec<u8>),
+    /// Other text, and where it is no hex.
+    NoHex(Vec<u8>, Fault),
+}
+
+impl Content {
+    fn of(bytes: Vec<u8>) -> Content {
+        if bytes.is_empty() {
+            return Content::Bytes(Form::Empty, bytes);
         }
-        Err(Fault { line, column, what }) => trouble(format!(
-            "{name}: taken for hex, as it is text without a mark at its start; line {line}, column {column}: {what}"
-        )),
+        if marked_as(&bytes).is_some() {
+            return Content::Bytes(Form::Binary, bytes);
+        }
+        let Some(text) = decoded(&bytes) else { return Content::Bytes(Form::Binary, bytes) };
+        // Comments, and what follows .e, may hold anything.
+        if table::begins(&text) {
+            return Content::Table(text.into_owned());
+        }
+        if is_text(&text) {
+            match from_hex(&text) {
+                Ok(bytes) => return Content::Bytes(Form::Hex, bytes),
+                Err(fault) if std::str::from_utf8(&text).is_ok() => {
+                    return Content::NoHex(text.into_owned(), fault);
+                }
+                // A comment may be written in any way, the rest of a text not.
+                Err(_) => {}
+            }
+        }
+        drop(text);
+        Content::Bytes(Form::Binary, bytes)
     }
 }
 
@@ -109,9 +192,8 @@ pub fn marked_as(bytes: &[u8]) -> Option<&'static str> {
     MARKS.iter().find(|(mark, _)| bytes.starts_with(mark)).map(|(_, what)| *what)
 }
 
-/// Bytes as text without its byte order mark, if they are text: no control character
-/// but white space.
-fn text_of(bytes: &[u8]) -> Option<Cow<'_, [u8]>> {
+/// Bytes without their byte order mark, and UTF-16 that has one as UTF-8.
+fn decoded(bytes: &[u8]) -> Option<Cow<'_, [u8]>> {
     let wide = |of: fn([u8; 2]) -> u16| {
         if bytes.len() % 2 == 1 {
             return None;
@@ -120,14 +202,17 @@ fn text_of(bytes: &[u8]) -> Option<Cow<'_, [u8]>> {
         let text: Result<String, _> = char::decode_utf16(units).collect();
         text.ok().map(|text| Cow::Owned(text.into_bytes()))
     };
-    let text = match bytes {
-        [0xEF, 0xBB, 0xBF, rest @ ..] => Cow::Borrowed(rest),
-        [0xFF, 0xFE, ..] => wide(u16::from_le_bytes)?,
-        [0xFE, 0xFF, ..] => wide(u16::from_be_bytes)?,
-        _ => Cow::Borrowed(bytes),
-    };
-    let control = |&c: &u8| c.is_ascii_control() && !white(c);
-    (!text.iter().any(control)).then_some(text)
+    match bytes {
+        [0xEF, 0xBB, 0xBF, rest @ ..] => Some(Cow::Borrowed(rest)),
+        [0xFF, 0xFE, ..] => wide(u16::from_le_bytes),
+        [0xFE, 0xFF, ..] => wide(u16::from_be_bytes),
+        _ => Some(Cow::Borrowed(bytes)),
+    }
+}
+
+/// No control character but white space.
+fn is_text(text: &[u8]) -> bool {
+    !text.iter().any(|&c| c.is_ascii_control() && !white(c))
 }
 
 fn white(c: u8) -> bool {
@@ -140,6 +225,12 @@ pub struct Fault {
     pub line: usize,
     pub column: usize,
     pub what: String,
+}
+
+impl Fault {
+    fn words(&self) -> String {
+        format!("line {}, column {}: {}", self.line, self.column, self.what)
+    }
 }
 
 /// Groups of hex digits, apart by white space or commas, each with or without `0x`;
@@ -279,26 +370,33 @@ fn inside(folder: &OsStr) -> io::Result<Vec<OsString>> {
 pub enum Came {
     Function(Taken),
     Unread(Trouble),
-    /// It lies in a folder and is no function, for this reason: a claim, or text that
-    /// is not hex, unless its name says that it is a function.
+    /// It lies in a folder and is no function, for this reason: a claim, or text that is
+    /// neither hex nor begins as a table does, unless its name says that it is one.
     PassedOver(&'static str),
 }
 
 impl Source {
     pub fn take(&self) -> Came {
-        let bytes = match read(&self.path) {
-            Ok(bytes) => bytes,
+        if !self.of_folder {
+            return take_function(&self.path).map_or_else(Came::Unread, Came::Function);
+        }
+        let name = name_of(&self.path);
+        let content = match read(&self.path) {
+            Ok(bytes) => Content::of(bytes),
             Err(why) => return Came::Unread(why),
         };
-        let named =
-            Path::new(&self.path).extension().is_some_and(|end| end == "hex" || end == "fn");
-        match taken(name_of(&self.path), bytes) {
-            Ok(taken) => match marked_as(&taken.bytes) {
-                Some(what) if self.of_folder && what != FUNCTION => Came::PassedOver(what),
-                _ => Came::Function(taken),
+        match (content, Named::of(&self.path)) {
+            (Content::Bytes(form, bytes), _) => match marked_as(&bytes) {
+                Some(what) if what != FUNCTION => Came::PassedOver(what),
+                _ => Came::Function(Taken::of(name, form, bytes)),
             },
-            Err(_) if self.of_folder && !named => Came::PassedOver("other text"),
-            Err(why) => Came::Unread(why),
+            (Content::Table(text), _) | (Content::NoHex(text, _), Named::Table) => {
+                Came::Function(Taken::table(name, text, None))
+            }
+            (Content::NoHex(_, fault), Named::Function) => {
+                no_hex(&name, &fault).map_or_else(Came::Unread, Came::Function)
+            }
+            (Content::NoHex(..), Named::Anything) => Came::PassedOver("other text"),
         }
     }
 }
@@ -308,7 +406,7 @@ mod tests {
     use super::*;
 
     fn hex(text: &str) -> Result<Vec<u8>, (usize, usize)> {
-        let text = text_of(text.as_bytes()).expect("text");
+        let text = decoded(text.as_bytes()).expect("text");
         from_hex(&text).map_err(|fault| (fault.line, fault.column))
     }
 
@@ -332,7 +430,7 @@ mod tests {
         let text = "\u{feff}46 4E 02 AB";
         for of in [u16::to_le_bytes, u16::to_be_bytes] {
             let text = wide(text, of);
-            assert_eq!(from_hex(&text_of(&text).expect("text")).ok(), bytes.clone().ok());
+            assert_eq!(from_hex(&decoded(&text).expect("text")).ok(), bytes.clone().ok());
         }
         assert_eq!(hex(""), Ok(vec![]));
         assert_eq!(hex("# nothing"), Ok(vec![]));
@@ -351,7 +449,11 @@ mod tests {
 
     #[test]
     fn what_bytes_are_taken_for() {
-        let form = |bytes: &[u8]| taken(String::new(), bytes.to_vec()).map(|taken| taken.form).ok();
+        let form = |bytes: &[u8]| match Content::of(bytes.to_vec()) {
+            Content::Bytes(form, _) => Some(form),
+            Content::Table(_) => Some(Form::Table),
+            Content::NoHex(..) => None,
+        };
         assert_eq!(form(b""), Some(Form::Empty));
         assert_eq!(form(b"FN\x02"), Some(Form::Binary));
         assert_eq!(form(b"46 4E # Gr\xF6\xDFe"), Some(Form::Hex));
@@ -360,5 +462,22 @@ mod tests {
         assert_eq!(form(b"\xFF\xFE4\x006\x00"), Some(Form::Hex));
         assert_eq!(form(b"\xFF\xFE\x00\xD8"), Some(Form::Binary));
         assert_eq!(form("46 4G ä".as_bytes()), None);
+        assert_eq!(form(b"46 4G \xE4"), Some(Form::Binary));
+        assert_eq!(form(b"# Gr\xF6\xDFe\n\t.i 2 # \x02"), Some(Form::Table));
+        assert_eq!(form(b"\xEF\xBB\xBF.i 2"), Some(Form::Table));
+        assert_eq!(form(b"\xFE\xFF\x00.\x00i"), Some(Form::Table));
+        assert_eq!(form(b".i 2\n.e\x1A"), Some(Form::Table));
+        assert_eq!(form(b"01 1"), None);
+    }
+
+    #[test]
+    fn what_names_say() {
+        let named = |name: &str| Named::of(OsStr::new(name));
+        assert_eq!(named("a/mux.hex"), Named::Function);
+        assert_eq!(named("mux.fn"), Named::Function);
+        assert_eq!([named("mux.pla"), named("MUX.PLA"), named("a.b/x.tbl")], [Named::Table; 3]);
+        for name in ["mux", "-", "mux.txt", "pla", ".pla", "mux.pla/x", "mux.pla.bak"] {
+            assert_eq!(named(name), Named::Anything, "{name}");
+        }
     }
 }

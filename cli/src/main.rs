@@ -6,10 +6,11 @@
 //!
 //! - `verbs`: the table of verbs, which is the help; a verb is one file;
 //! - `args`: the words of a command line;
-//! - `input`: files as bytes; `output`: text, colour, files written whole;
+//! - `input`: files as bytes; `output`: text, colour, files written whole; `keep`: -o;
 //! - `words`: codes and numbers in words; `json`: objects for scripts;
 //! - `function`, `map`, `claim`: records and claims taken apart to be shown;
-//! - `refusal`: a refusal in words, with the bytes at fault marked;
+//! - `refusal`: a refusal in words, with the bytes at fault marked; `table`: that of a
+//!   table, with its lines;
 //! - `many`: work on all cores, with a progress line.
 
 mod args;
@@ -17,10 +18,12 @@ mod claim;
 mod function;
 mod input;
 mod json;
+mod keep;
 mod many;
 mod map;
 mod output;
 mod refusal;
+mod table;
 mod verbs;
 mod words;
 

@@ -1,8 +1,9 @@
-//! A refusal in words, with the bytes at fault marked in a dump.
+//! A refusal in words, with the bytes at fault marked in a dump, or the lines of a table.
 
 use zap_calls::Answer;
 
-use crate::input::{marked_as, Taken};
+use crate::function::Function;
+use crate::input::{marked_as, Form, Taken};
 use crate::json::Object;
 use crate::output::{Colour, Out};
 use crate::words::{self, number};
@@ -21,6 +22,18 @@ pub fn at_fault<'a>(answer: Answer, parts: &[&'a Taken]) -> Option<&'a Taken> {
     parts.get((answer.record as usize).checked_sub(1)?).copied()
 }
 
+/// Where f or g is a refused table, there are no two records to make a call with: what
+/// is told then. f's own fault comes before any of g. A table is read by itself, as
+/// record 1; as g it is record 2.
+pub fn of_tables(f: &Taken, g: &Taken) -> Option<Answer> {
+    let table = f.refused.as_ref().or(g.refused.as_ref())?;
+    let (of_f, function) = Function::of(f);
+    Some(match function {
+        None => of_f,
+        Some(_) => Answer { record: 2, ..table.answer },
+    })
+}
+
 /// In one line: `g (cell.hex, taken for hex): wrong mark (code 2), at byte 0`.
 pub fn sentence(answer: Answer, parts: &[&Taken]) -> String {
     let who = match answer.record {
@@ -30,18 +43,26 @@ pub fn sentence(answer: Answer, parts: &[&Taken]) -> String {
         3 => "the claim ".to_string(),
         _ => String::new(),
     };
-    let whose = match at_fault(answer, parts) {
-        Some(taken) if who.is_empty() => format!("{}: ", taken.described()),
-        Some(taken) => format!("{who}({}): ", taken.described()),
-        None => String::new(),
-    };
-    let hint = at_fault(answer, parts).and_then(|taken| hint(answer, taken));
-    format!("{whose}{}{}", fault(answer), hint.unwrap_or_default())
+    match at_fault(answer, parts) {
+        Some(taken) if who.is_empty() => format!("{}: {}", taken.described(), fault(answer, taken)),
+        Some(taken) => format!("{who}({}): {}", taken.described(), fault(answer, taken)),
+        None => given(answer, ""),
+    }
 }
 
-/// `wrong mark (code 2), at byte 0`.
-pub fn fault(answer: Answer) -> String {
-    format!("{} (code {}){}", words::of_code(answer.code), answer.code, place(answer))
+/// What is wrong with what was taken: `wrong mark (code 2), at byte 0`.
+pub fn fault(answer: Answer, taken: &Taken) -> String {
+    match &taken.refused {
+        Some(table) => table.sentence(),
+        None => {
+            let record = if taken.form == Form::Table { " of its record" } else { "" };
+            given(answer, record) + &hint(answer, taken).unwrap_or_default()
+        }
+    }
+}
+
+fn given(answer: Answer, of: &str) -> String {
+    format!("{} (code {}){}", words::of_code(answer.code), answer.code, place(answer, of))
 }
 
 /// Files that were named in another order than they are asked for.
@@ -50,23 +71,24 @@ fn hint(answer: Answer, taken: &Taken) -> Option<String> {
     Some(format!("; these are the bytes of {what}"))
 }
 
-fn place(answer: Answer) -> String {
+fn place(answer: Answer, of: &str) -> String {
     let at = number(answer.place as usize);
     match answer.code {
         1 => format!(", after {}", words::count(answer.place as usize, "byte")),
         14 => String::new(),
-        _ => format!(", at byte {at}"),
+        _ => format!(", at byte {at}{of}"),
     }
 }
 
-/// The refusal for a person: the sentence, the dump, the numbers.
+/// The refusal for a person: the sentence, the dump or the lines, the numbers.
 pub fn show(out: &mut Out, answer: Answer, parts: &[&Taken]) {
     let word = out.paint(Colour::Bad, "refused");
     out.line(&format!("{word}: {}", sentence(answer, parts)));
-    if let Some(taken) = at_fault(answer, parts) {
-        if answer.code != 14 {
-            out.line("");
-            dump(out, &taken.bytes, answer.place as usize, marked(answer.code));
+    if let Some(taken) = at_fault(answer, parts).filter(|_| answer.code != 14) {
+        out.line("");
+        match &taken.refused {
+            Some(table) => table.show(out),
+            None => dump(out, &taken.bytes, answer.place as usize, marked(answer.code)),
         }
     }
     out.line("");
@@ -137,10 +159,26 @@ pub fn plain_dump(out: &mut Out, bytes: &[u8]) {
 pub fn object(object: Object, answer: Answer, parts: &[&Taken]) -> Object {
     let object = object.text("result", "refused").answer(answer);
     let object = object.text("words", words::of_code(answer.code));
-    match at_fault(answer, parts) {
-        Some(taken) => object.text("taken_for", taken.form.name()),
+    let Some(taken) = at_fault(answer, parts) else { return object };
+    let object = object.text("taken_for", taken.form.name());
+    let Some(table) = &taken.refused else { return object };
+    let fault = table.fault();
+    let numbers = fault.shown.iter().map(|line| line.number.to_string());
+    let object = object.text("fault", &fault.words).list("lines", numbers);
+    match &table.no_hex {
+        Some(why) => object.text("no_hex", why),
         None => object,
     }
+}
+
+/// The refusal of a verb's one function, for a person or for a script.
+pub fn told(out: &mut Out, json: bool, object: Object, answer: Answer, taken: &Taken) -> Status {
+    if json {
+        out.line(&self::object(object, answer, &[taken]).end());
+    } else {
+        show(out, answer, &[taken]);
+    }
+    Status::Trouble
 }
 
 /// A refused claim is a no; a refused function is no answer at all.

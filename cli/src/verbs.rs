@@ -4,8 +4,10 @@ mod check;
 mod explain;
 mod help;
 mod matching;
+mod record;
 mod show;
 mod summary;
+mod table;
 
 use std::ffi::OsString;
 
@@ -26,8 +28,16 @@ pub struct Verb {
     pub run: fn(&Args, &mut Out) -> Result<Status, Trouble>,
 }
 
-const VERBS: [&Verb; 6] =
-    [&matching::VERB, &check::VERB, &summary::VERB, &show::VERB, &explain::VERB, &help::VERB];
+const VERBS: [&Verb; 8] = [
+    &matching::VERB,
+    &check::VERB,
+    &summary::VERB,
+    &show::VERB,
+    &explain::VERB,
+    &table::VERB,
+    &record::VERB,
+    &help::VERB,
+];
 
 impl Verb {
     fn options(&self) -> Vec<&'static Opt> {
@@ -105,5 +115,5 @@ fn counted(what: &str, names: &[String]) -> String {
 /// f, g and a claim, in that order.
 fn take_three(args: &Args, verb: &Verb) -> Result<[Taken; 3], Trouble> {
     let [f, g, claim] = &args.files[..] else { return verb.misused() };
-    Ok([input::take(f)?, input::take(g)?, input::take(claim)?])
+    Ok([input::take_function(f)?, input::take_function(g)?, input::take_claim(claim)?])
 }

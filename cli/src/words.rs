@@ -12,7 +12,7 @@ const fn code(number: u64, words: &'static str, place: &'static str) -> Code {
 }
 
 /// Every code, in the words of include/zap.h.
-pub const CODES: [Code; 19] = [
+pub const CODES: [Code; 22] = [
     code(1, "the bytes end too early", "the length"),
     code(2, "wrong mark", "the first wrong byte"),
     code(3, "n not 1 to 8 in a function record", "2"),
@@ -36,6 +36,13 @@ pub const CODES: [Code; 19] = [
     code(17, "the named pair is not dead", "first byte of the node"),
     code(18, "the output buffer is too short", "the length needed"),
     code(19, "a cube list has an odd length", "that length"),
+    code(20, "malformed line or repeated keyword", "the line, from 1"),
+    code(
+        21,
+        "unknown keyword, one missing at the first term or at .e, or no .e",
+        "the line, from 1",
+    ),
+    code(22, "at .e, the term count differs from .p", "the line, from 1"),
 ];
 
 pub fn of_code(number: u64) -> &'static str {

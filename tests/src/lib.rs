@@ -5,7 +5,8 @@
 //! or where ZAP_PROGRAMS says; the command `zap` in ../cli/target/release, or where
 //! ZAP_BINARY says.
 //!
-//! - `reference`: 01 in plain Rust, from its text, by patterns and brute force;
+//! - `reference`: 01 and the requests in plain Rust, from their text, by patterns and
+//!   brute force;
 //! - `calls`: the functions under test, taken from the static archives;
 //! - `command`: the command `zap`, run as a person runs it;
 //! - `json`: a reader for what it prints for scripts;
@@ -14,6 +15,7 @@
 //! - `wirings`: the call for dead pairs under a partial wiring, likewise;
 //! - `claims`: the checker, likewise;
 //! - `matches`: the matcher, likewise;
+//! - `tables`: the calls on espresso tables, likewise;
 //! - `programs`: the programs, run and held against the reference;
 //! - `cases`: the small functions and cases that 01 names, with its numbers;
 //! - `lent`: slices lent to a call, with known elements in them and around them;
@@ -32,6 +34,7 @@ pub mod random;
 pub mod records;
 pub mod reference;
 pub mod show;
+pub mod tables;
 pub mod tally;
 pub mod wirings;
 pub mod wrong;

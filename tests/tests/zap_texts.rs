@@ -21,7 +21,7 @@ const CONJ_ODD: &str = "52 46 02 FF 01 00 01 01 00 00 01 00 00 01 00 01 \
                         FF 01 00 01 01 00 00 01 00 01 01 00 00";
 
 /// Runs the command on these files, and compares what it prints with a golden text.
-fn expect(golden: &str, files: &[(&str, &str)], words: &str, status: i32) {
+fn expect<C: AsRef<[u8]>>(golden: &str, files: &[(&str, C)], words: &str, status: i32) {
     let folder = Folder::new();
     for (name, content) in files {
         folder.write(name, content);
@@ -169,6 +169,113 @@ fn a_refusal_of_three_inputs_explained() {
     let files = [["both.hex", f], ["first.hex", g], ["claim.hex", &claim]];
     expect_explained("explain-three-inputs.txt", files, "", 0);
     expect_explained("explain-three-inputs-depth-1.txt", files, " --depth 1", 0);
+}
+
+// ---- Tables ----
+
+/// A refused table, shown.
+fn expect_refused_table(golden: &str, text: impl AsRef<[u8]>) {
+    expect(golden, &[("bad.pla", text)], "show bad.pla", 2);
+}
+
+/// The example's seventh line has two of three inputs.
+#[test]
+fn a_short_term_shown() {
+    let file = repository().join("examples/refused/short-term.pla");
+    let text = fs::read_to_string(file).expect("an example");
+    expect("show-short-term.txt", &[("short.pla", text)], "show short.pla", 2);
+}
+
+/// Line 5 begins with a tab and a blank, which are shown as two blanks: 1 is in column 3
+/// and x in column 4. CR is not shown.
+#[test]
+fn a_bad_input_shown() {
+    let text = ".i 2\r\n.o 1\r\n.type fr\r\n\r\n\t 1x  1 # out\r\n.e\r\n";
+    expect_refused_table("show-bad-input.txt", text);
+}
+
+/// Where the output should stand is after a blank.
+#[test]
+fn a_missing_output_shown() {
+    expect_refused_table("show-no-output.txt", ".i 2\n.o 1\n.type fr\n10\n.e");
+}
+
+#[test]
+fn an_unknown_keyword_shown() {
+    expect_refused_table("show-unknown-keyword.txt", ".i2\n.o 1\n");
+}
+
+/// Of the three, `.o` alone stands before line 3.
+#[test]
+fn missing_keywords_shown() {
+    expect_refused_table("show-missing-keyword.txt", ".o 1\n.p 1\n01 1\n.type fr\n");
+}
+
+/// Four lines, and the line after the last is the fifth.
+#[test]
+fn no_end_shown() {
+    expect_refused_table("show-no-end.txt", ".i 2\n.o 1\n.type fr\n01 1\n");
+}
+
+#[test]
+fn an_outside_number_of_inputs_shown() {
+    expect_refused_table("show-outside.txt", "\n.i 9\n.i 9\n");
+}
+
+/// Terms in lines 5 to 7, one of which adds nothing.
+#[test]
+fn a_miscount_shown() {
+    let text = ".i 2\n.o 1\n.type fr\n.p 4\n01 1\n-- ~\n10 0\n.e\n";
+    expect_refused_table("show-miscounted.txt", text);
+}
+
+/// 66 terms with output 1, from line 4 on: the 65th is in line 68.
+#[test]
+fn too_many_terms_shown() {
+    let text = format!(".i 1\n.o 1\n.type fr\n{}0 0\n.e\n", "1 1\n".repeat(66));
+    expect_refused_table("show-65-terms.txt", text);
+}
+
+/// x0' and x0·x2' share nothing. x1 and x0·x2' share x0·x1·x2', which is the inputs 110.
+/// x1 is on cube 1, at 5 + 2.
+#[test]
+fn a_shared_pattern_shown() {
+    let text = ".i 3\n.o 1\n.type fr\n1-0 0\n0-- 1\n-1- 1\n.e\n";
+    expect_refused_table("show-shared-pattern.txt", text);
+}
+
+/// Where it is g, its answer has record 2.
+#[test]
+fn a_refused_table_matched() {
+    let files = [("conj.hex", CONJ), ("bad.pla", ".i 2\n.o 1\n.type fr\n.o 1\n")];
+    expect("match-refused-table.txt", &files, "match conj.hex bad.pla", 2);
+}
+
+/// 200 characters before the x and 150 after it: 60 and 59 of them are shown, 120 in all.
+#[test]
+fn a_long_line_shown() {
+    let (before, after) = ("0".repeat(200), "1".repeat(150));
+    let text = format!(".i 2\n.o 1\n.type fr\n{before}x{after} 1\n");
+    expect_refused_table("show-long-line.txt", text);
+}
+
+/// What a terminal would take for an order is shown as letters.
+#[test]
+fn control_characters_shown() {
+    let text = b".i 2\n.o 1\n.type fr\n\x1B[31m 1 \x00\xFF\n.e\n";
+    expect_refused_table("show-control-characters.txt", text);
+}
+
+/// On: 1-10 is P 5, N 8; -110 is 6, 8; -001 is 8, 6. Off: --00 is 0, C; 0010 is 4, B. The
+/// two terms that add nothing are left out.
+#[test]
+fn a_table_written() {
+    let file = repository().join("examples/round-up.pla");
+    let text = fs::read_to_string(file).expect("an example");
+    expect("table-round-up.txt", &[("r.pla", &text)], "table r.pla", 0);
+    expect("record-round-up.txt", &[("r.pla", &text)], "record r.pla", 0);
+    let record = "46 4E 04 03 02 05 08 06 08 08 06 00 0C 04 0B";
+    expect("table-round-up.txt", &[("r.hex", record)], "table r.hex", 0);
 }
 
 // ---- The runs that the documents show ----

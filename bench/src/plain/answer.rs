@@ -7,6 +7,7 @@ pub const BUFFER: u8 = 4;
 
 pub const MATCH: u8 = 1;
 pub const NO_MATCH: u8 = 2;
+pub const OTHER: u8 = 3;
 
 pub enum Answer {
     Accepted { kind: u8, place: usize },
@@ -27,4 +28,9 @@ impl Answer {
         };
         code as u64 | (kind as u64) << 8 | (record as u64) << 16 | (place as u64) << 24
     }
+}
+
+/// The first bytes of the buffer.
+pub fn room(out: &mut [u8], length: usize) -> Result<&mut [u8], Refusal> {
+    out.get_mut(..length).ok_or(Refusal { code: 18, record: BUFFER, place: length })
 }

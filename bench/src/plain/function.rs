@@ -22,7 +22,7 @@ impl Cube {
 
 /// A list of cubes: a part of a record, P then N of each cube.
 #[derive(Clone, Copy)]
-pub struct Cubes<'a>(&'a [[u8; 2]]);
+pub struct Cubes<'a>(pub &'a [[u8; 2]]);
 
 impl<'a> Cubes<'a> {
     pub fn get(self, index: usize) -> Option<Cube> {
@@ -31,6 +31,19 @@ impl<'a> Cubes<'a> {
 
     pub fn iter(self) -> impl Iterator<Item = Cube> + 'a {
         self.0.iter().map(|&[p, n]| Cube { p, n })
+    }
+
+    pub fn len(self) -> usize {
+        self.0.len()
+    }
+
+    pub fn bytes(self) -> &'a [u8] {
+        self.0.as_flattened()
+    }
+
+    /// The first cube that has a pattern in common with some cube of the other list.
+    pub fn first_shared(self, other: Cubes) -> Option<usize> {
+        self.iter().position(|one| other.iter().any(|other| !one.apart(other)))
     }
 
     fn split_at(self, index: usize) -> (Cubes<'a>, Cubes<'a>) {
@@ -55,7 +68,10 @@ pub struct Two<'a> {
 /// A list of f and the list of g that it must be kept apart from.
 pub type Lists<'a> = (Cubes<'a>, Cubes<'a>);
 
-const CUBES: usize = 5;
+/// Where a record's cubes start.
+pub const CUBES: usize = 5;
+
+pub const LONGEST_LIST: usize = 64;
 
 /// Both functions, which must not differ in the number of inputs.
 pub fn read_two<'a>(f: &'a [u8], g: &'a [u8]) -> Result<Two<'a>, Refusal> {
@@ -67,7 +83,7 @@ pub fn read_two<'a>(f: &'a [u8], g: &'a [u8]) -> Result<Two<'a>, Refusal> {
     Ok(Two { n: f.n, lists })
 }
 
-fn read(bytes: &[u8], record: u8) -> Result<Function<'_>, Refusal> {
+pub fn read(bytes: &[u8], record: u8) -> Result<Function<'_>, Refusal> {
     let refused = |code, place| Refusal { code, record, place };
     let byte = |place: usize| bytes.get(place).copied().ok_or(refused(1, bytes.len()));
 
@@ -82,11 +98,11 @@ fn read(bytes: &[u8], record: u8) -> Result<Function<'_>, Refusal> {
         return Err(refused(3, 2));
     }
     let a = byte(3)? as usize;
-    if a > 64 {
+    if a > LONGEST_LIST {
         return Err(refused(4, 3));
     }
     let b = byte(4)? as usize;
-    if b > 64 {
+    if b > LONGEST_LIST {
         return Err(refused(4, 4));
     }
     let end = CUBES + 2 * (a + b);
@@ -107,7 +123,7 @@ fn read(bytes: &[u8], record: u8) -> Result<Function<'_>, Refusal> {
         }
     }
     let (on, off) = cubes.split_at(a);
-    match on.iter().position(|one| off.iter().any(|other| !one.apart(other))) {
+    match on.first_shared(off) {
         Some(index) => Err(refused(7, CUBES + 2 * index)),
         None => Ok(Function { n, on, off }),
     }

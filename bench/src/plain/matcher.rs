@@ -2,7 +2,7 @@
 
 use std::ops::ControlFlow::{self, Break, Continue};
 
-use super::answer::{Answer, Refusal, BUFFER, MATCH, NO_MATCH};
+use super::answer::{room, Answer, Refusal, MATCH, NO_MATCH};
 use super::function::{read_two, Lists, Two};
 use super::wiring::Wiring;
 use super::SPLIT;
@@ -38,11 +38,6 @@ fn claim(two: &Two, out: &mut [u8]) -> Result<(u8, usize), Refusal> {
         place = put(lists, Wiring::new(n), out, place);
     }
     Ok((NO_MATCH, length))
-}
-
-/// The first bytes of the buffer.
-fn room(out: &mut [u8], length: usize) -> Result<&mut [u8], Refusal> {
-    out.get_mut(..length).ok_or(Refusal { code: 18, record: BUFFER, place: length })
 }
 
 /// The first agreeing wiring that starts like this one, or else the length of the

@@ -43,7 +43,8 @@ fn run(args: &Args, out: &mut Out) -> Result<Status, Trouble> {
 
 /// What the archive says of the claim, and the exit status that goes with it.
 pub fn asked(f: &Taken, g: &Taken, claim: &Taken) -> (Answer, Status) {
-    let answer = Answer::of(zap_calls::check(&f.bytes, &g.bytes, &claim.bytes));
+    let checked = || Answer::of(zap_calls::check(&f.bytes, &g.bytes, &claim.bytes));
+    let answer = refusal::of_tables(f, g).unwrap_or_else(checked);
     (answer, if answer.code == 0 { Status::Yes } else { refusal::status(answer) })
 }
 

@@ -40,7 +40,7 @@ fn run(args: &Args, out: &mut Out) -> Result<Status, Trouble> {
     let [f, g, claim] = take_three(args, &VERB)?;
     let (answer, status) = check::asked(&f, &g, &claim);
     let parts = [&f, &g, &claim];
-    let shown = match (Function::read(&f.bytes).1, Function::read(&g.bytes).1) {
+    let shown = match (Function::of(&f).1, Function::of(&g).1) {
         (Some(f), Some(g)) if status != Status::Trouble => {
             Some(Shown { f, g, claim: &claim.bytes, answer, depth })
         }

@@ -19,7 +19,8 @@ pub const VERB: Verb = Verb {
 /// What holds for every verb.
 pub const GROUNDS: &str = "
 A function or a claim is a file of its bytes, or of the bytes in hex: white space, commas, 0x and # comments are
-fine. `-` is standard input. docs/FORMATS.md tells how functions and claims are written.
+fine. A function may also be an espresso table with one output (.i, .o 1, .type fr, .p, terms, .e). `-` is standard
+input. docs/FORMATS.md tells how functions, tables and claims are written.
 
 Every verb takes --json: one object a line. There is colour on a terminal alone, and none if NO_COLOR is set.
 

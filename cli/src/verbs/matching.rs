@@ -1,7 +1,6 @@
 //! `zap match`: the first wiring under which two functions agree, or the refusal; for one g or for many.
 
 use std::ffi::OsString;
-use std::io::{self, Write};
 
 use zap_calls::{Answer, LONGEST_CLAIM};
 
@@ -12,19 +11,13 @@ use crate::claim::{measure, Choice, Wiring};
 use crate::function::Function;
 use crate::input::{self, Came, Source, Taken};
 use crate::json::Object;
-use crate::output::{trouble, write_whole, Colour, Out, Trouble};
+use crate::keep::{self, HEX};
+use crate::output::{trouble, Colour, Out, Trouble};
 use crate::words::{count, hex};
 use crate::{many, refusal, Status};
 
-const FILE: Opt = Opt {
-    long: "--output",
-    short: Some("-o"),
-    value: Some("FILE"),
-    about: "writes the claim to FILE, whole or not at all; - is standard output",
-};
-
-const HEX: Opt =
-    Opt { long: "--hex", short: None, value: None, about: "writes it as hex, not binary" };
+const FILE: Opt =
+    keep::output("writes the claim to FILE, whole or not at all; - is standard output");
 
 pub const VERB: Verb = Verb {
     name: "match",
@@ -43,10 +36,8 @@ over. Exit status 0 if some g matches, 1 if none does, 2 if some function was re
 
 fn run(args: &Args, out: &mut Out) -> Result<Status, Trouble> {
     let [f, others @ ..] = &args.files[..] else { return VERB.misused() };
-    if args.has(&HEX) && !args.has(&FILE) {
-        return trouble("--hex says how -o writes; there is no -o");
-    }
-    let f = input::take(f)?;
+    keep::wants_file(args, &FILE)?;
+    let f = input::take_function(f)?;
     match others {
         [] => VERB.misused(),
         [g] if g == "-" || !std::path::Path::new(g).is_dir() => one(args, &f, g, out),
@@ -72,10 +63,11 @@ fn buffer() -> Vec<u8> {
 const SCREEN: usize = 24 * 16;
 
 fn one(args: &Args, f: &Taken, g: &OsString, out: &mut Out) -> Result<Status, Trouble> {
-    let g = input::take(g)?;
-    let mut found = None;
+    let g = input::take_function(g)?;
+    let mut found = refusal::of_tables(f, &g).map(|answer| (answer, vec![]));
+    let searches: &[()] = if found.is_some() { &[] } else { &[()] };
     many::each(
-        &[()],
+        searches,
         "searching",
         buffer,
         |buffer, ()| {
@@ -86,9 +78,12 @@ fn one(args: &Args, f: &Taken, g: &OsString, out: &mut Out) -> Result<Status, Tr
         |(), result| found = Some(result),
     );
     let (answer, claim) = found.expect("one result");
-    let kept = keep(args, &claim)?;
+    let kept = match claim[..] {
+        [] => None,
+        _ => keep::keep_bytes(args, &FILE, &claim)?,
+    };
     let mut aside = Out::error();
-    let out = if kept.as_deref() == Some("-") { &mut aside } else { out };
+    let out = keep::beside(&kept, out, &mut aside);
     let parts = [f, &g];
     if args.json() {
         let object = Object::new(VERB.name).text("f", &f.name).text("g", &g.name);
@@ -118,30 +113,6 @@ fn status(answer: Answer) -> Status {
     }
 }
 
-/// Writes the claim where -o says, if there is one.
-fn keep(args: &Args, claim: &[u8]) -> Result<Option<String>, Trouble> {
-    let Some(file) = args.value(&FILE) else { return Ok(None) };
-    if claim.is_empty() {
-        return Ok(None);
-    }
-    let fill = |sink: &mut dyn Write| match args.has(&HEX) {
-        true => write_hex(claim, sink),
-        false => sink.write_all(claim),
-    };
-    if file == "-" {
-        let mut out = Out::standard();
-        out.bytes(fill);
-        out.flush();
-    } else {
-        write_whole(file, fill)?;
-    }
-    Ok(Some(file.to_string_lossy().into_owned()))
-}
-
-fn write_hex(claim: &[u8], sink: &mut dyn Write) -> io::Result<()> {
-    claim.chunks(32).try_for_each(|row| writeln!(sink, "{}", hex(row)))
-}
-
 fn show(out: &mut Out, answer: Answer, claim: &[u8], kept: Option<&str>, args: &Args) {
     if answer.kind == 1 {
         let word = out.paint(Colour::Good, "match");
@@ -162,8 +133,7 @@ fn show(out: &mut Out, answer: Answer, claim: &[u8], kept: Option<&str>, args: &
         }
     }
     if let Some(file) = kept.filter(|file| *file != "-") {
-        let form = if args.has(&HEX) { "hex" } else { "binary" };
-        out.line(&format!("written to {file}, {form}"));
+        out.line(&format!("written to {file}, {}", keep::form(args)));
     }
     refusal::numbers(out, answer);
 }
@@ -204,15 +174,10 @@ enum Outcome {
 fn several(args: &Args, f: &Taken, others: &[OsString], out: &mut Out) -> Result<Status, Trouble> {
     let sources = input::spread(others)?;
     // f's own fault is told once, and not for each g.
-    let (answer, function) = Function::read(&f.bytes);
+    let (answer, function) = Function::of(f);
     if function.is_none() {
-        if args.json() {
-            let object = Object::new(VERB.name).text("f", &f.name);
-            out.line(&refusal::object(object, answer, &[f]).end());
-        } else {
-            refusal::show(out, answer, &[f]);
-        }
-        return Ok(Status::Trouble);
+        let object = Object::new(VERB.name).text("f", &f.name);
+        return Ok(refusal::told(out, args.json(), object, answer, f));
     }
     let mut table = Table::default();
     let work = |buffer: &mut Vec<u8>, source: &Source| outcome(f, source, buffer);
@@ -239,7 +204,10 @@ fn outcome(f: &Taken, source: &Source, buffer: &mut [u8]) -> Outcome {
         Came::Unread(Trouble(why)) => return Outcome::Unread(why),
         Came::PassedOver(why) => return Outcome::PassedOver(why),
     };
-    let answer = find(&f.bytes, &g.bytes, buffer);
+    let answer = match refusal::of_tables(f, &g) {
+        Some(answer) => answer,
+        None => find(&f.bytes, &g.bytes, buffer),
+    };
     match answer.code {
         // Its first bytes are enough for a line.
         0 => Outcome::Claimed(answer, buffer[..(answer.place as usize).min(SCREEN)].to_vec()),
@@ -259,7 +227,7 @@ fn line(out: &Out, name: &str, outcome: &Outcome) -> Option<String> {
         Outcome::OtherN(_, n) => format!("{name}: no match, it has {}", count(*n, "input")),
         Outcome::Refused(answer, g) => {
             let word = out.paint(Colour::Bad, "refused");
-            format!("{}: {word}: {}", g.described(), refusal::fault(*answer))
+            format!("{}: {word}: {}", g.described(), refusal::fault(*answer, g))
         }
         Outcome::Unread(why) => why.clone(),
         Outcome::PassedOver(_) => return None,

@@ -13,22 +13,17 @@ pub const VERB: Verb = Verb {
     usage: "F",
     about: "shows a function: its cubes as products, its counts, and its Karnaugh map",
     options: &[],
-    more: "In the map 1 is on, 0 off and - open; a row's label and a column's, one after the other, are the pattern in binary.\nA function that is refused is shown as bytes, with those at fault marked.\n",
+    more: "In the map 1 is on, 0 off and - open; a row's label and a column's, one after the other, are the pattern in binary.\nA function that is refused is shown as bytes, with those at fault marked, or by the table's line at fault.\n",
     run,
 };
 
 fn run(args: &Args, out: &mut Out) -> Result<Status, Trouble> {
     let [file] = &args.files[..] else { return VERB.misused() };
-    let taken = input::take(file)?;
+    let taken = input::take_function(file)?;
     let object = Object::new(VERB.name).text("file", &taken.name);
-    let (answer, function) = Function::read(&taken.bytes);
+    let (answer, function) = Function::of(&taken);
     let Some(f) = function else {
-        if args.json() {
-            out.line(&refusal::object(object, answer, &[&taken]).end());
-        } else {
-            refusal::show(out, answer, &[&taken]);
-        }
-        return Ok(Status::Trouble);
+        return Ok(refusal::told(out, args.json(), object, answer, &taken));
     };
     let values: Vec<Value> = (0..f.patterns()).map(|pattern| f.value(pattern)).collect();
     // The map is drawn here, the counts are the archive's.

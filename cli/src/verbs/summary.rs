@@ -63,7 +63,7 @@ fn run(args: &Args, out: &mut Out) -> Result<Status, Trouble> {
 }
 
 fn one(json: bool, table: bool, object: Object, taken: Taken, out: &mut Out) -> Status {
-    let (answer, function) = Function::read(&taken.bytes);
+    let (answer, function) = Function::of(&taken);
     let Some(f) = function else {
         if json {
             out.line(&refusal::object(object, answer, &[&taken]).end());
@@ -73,7 +73,7 @@ fn one(json: bool, table: bool, object: Object, taken: Taken, out: &mut Out) -> 
                 "{:margin$}{}: refused: {}",
                 "",
                 taken.described(),
-                refusal::fault(answer)
+                refusal::fault(answer, &taken)
             ));
         }
         return Status::Trouble;

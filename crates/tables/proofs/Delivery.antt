@@ -4,12 +4,9 @@ use mathlib.Core.Path.{_≡_, refl, sym, ap, ap₂, _∙_, subst₂}
 use mathlib.Core.Bool.{Bool, true, false, cond, _&&_, _||_, false≢true}
 use mathlib.Core.List.{List, [], _∷_, _++_}
 use native.Mathlib.Omega.{arith}
-use native.Mathlib.Nat.{le-trans}
-use borrow.Author.Tests.{eqb-true, eqb-false, eq-eqb, ne-eqb, lt-ltb, le-ltb, lt-leb, le-leb, leb-true}
-use lib.Bits.{bitAnd, bitOr, or-lt}
+use borrow.Author.Tests.{eqb-true, eqb-false, eq-eqb, ne-eqb, lt-leb, le-leb, leb-true}
 use lib.Dec.{leb, ltb, eqb}
 use lib.ListN.{length, getD, take, length-take}
-use lib.Pow.{pow-mono}
 use Rattle.bits.proofs.Tests.{both-left, both-right}
 use Rattle.bits.specs.Bits.{has}
 use Rattle.bits.proofs.Below.{any-none}
@@ -21,13 +18,12 @@ use Rattle.answers.specs.Answers.{fault, sound, is-sound, refused, fits, byte-f
 use Rattle.answers.proofs.Faults.{by-next, by-stop, then-stop, byte-good}
 use Rattle.rules.specs.Lists.{each-in}
 use Rattle.records.specs.Records.{first-fault, cube-code, clash-code, header-bytes, header-fault, record-fault}
-use Rattle.records.proofs.Codes.{code-none}
 use Rattle.records.proofs.Cubes.{first-each, each-first, clean-list, clash-width}
 use Rattle.records.proofs.Frame.{ends-at-header}
 use Rattle.writer.specs.Writing.{record-bytes}
 use Rattle.writer.proofs.Laws.{Sized}
 use Rattle.writer.proofs.RoundTrip.{clash-again}
-use Rattle.terms.specs.Terms.{Says, nothing, keyword, term, end, malformed, unknown, on-char, off-char, is-input, output, cube-of, inputs-with, well-formed, dot-i}
+use Rattle.terms.specs.Terms.{Says, nothing, keyword, term, end, malformed, unknown, on-char, off-char, output, cube-of, inputs-with, well-formed, dot-i}
 use Rattle.tables.specs.Tables.{of-term, told, table-fault, said-in, cubes-with, record-of, table-reading}
 use Rattle.tables.specs.declared.Scan.{Scan}
 use Rattle.tables.specs.Known.{Gathered, Ready, record-reading}

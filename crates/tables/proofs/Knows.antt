@@ -1,11 +1,11 @@
 -- What the code keeps is what the lines so far said: it judges the next line by that as the definitions do, and keeps on knowing.
-use Prim.Native.Nat.{ℕ, zero, suc, _+_, _*_, _%_, _≤_, _<_, min}
+use Prim.Native.Nat.{ℕ, suc, _+_, _*_, _%_, _≤_, _<_, min}
 use mathlib.Core.Path.{_≡_, refl, sym, ap, ap₂, _∙_, subst}
-use mathlib.Core.Bool.{Bool, true, false, cond, not, _&&_, _||_, or-false, or-assoc}
+use mathlib.Core.Bool.{Bool, true, false, cond, not, _&&_, _||_, or-false}
 use mathlib.Core.List.{List, [], _∷_, _++_, append-nil, append-assoc}
 use mathlib.Core.Logic.{⊎-elim}
 use native.Mathlib.Omega.{arith}
-use borrow.Author.Tests.{eq-eqb, ne-eqb, eqb-true, eqb-false, lt-ltb, ltb-true, le-leb, leb-true, not-false}
+use borrow.Author.Tests.{eq-eqb, eqb-true, lt-ltb, ltb-true, le-leb, leb-true, not-false}
 use lib.Dec.{leb, ltb, eqb}
 use lib.ListN.{length, getD, length-append}
 use Rattle.bits.proofs.Tests.{both-left, both-right, or-right, either, same-test, neither, cond-cases}
@@ -15,11 +15,12 @@ use Rattle.words.specs.Words.{value}
 use Rattle.words.specs.Counted.{most}
 use Rattle.terms.specs.declared.Cube.{Cube}
 use Rattle.terms.specs.declared.Line.{Line}
+use Rattle.terms.specs.declared.Line.the-variants.{Inputs, Output, Fr, Terms}
 use Rattle.terms.specs.Terms.{Says, nothing, keyword, term, end, malformed, unknown, dot, dot-e, alone, second, takes, is-keyword, keyword-line, says-by, is-input, inputs-with, well-formed, output, cube-of, dot-i, dot-o, dot-type, dot-p, on-char, off-char}
-use Rattle.terms.specs.Seen.{cube, no-cube, cube-seen, seen}
+use Rattle.terms.specs.Seen.{cube, cube-seen, seen}
 use Rattle.tables.specs.declared.Known.{Known}
-use Rattle.tables.specs.Tables.{of-keyword, of-term, is-end, is-of, stands, told, complete, terms, miscounted, line-code, cube-with, cubes-with}
-use Rattle.tables.specs.Known.{all-known, code-by, more-if, learnt, ends-with, cube-in}
+use Rattle.tables.specs.Tables.{of-keyword, of-term, is-end, is-of, stands, told, complete, terms, line-code, cube-with, cubes-with}
+use Rattle.tables.specs.Known.{all-known, code-by, more-if, learnt, ends-with}
 use Rattle.tables.proofs.First.{is-term}
 
 -- ---- a keyword is one of four
@@ -33,6 +34,11 @@ keyword-cases Q i o t p name e =
     (either (same name dot-i || same name dot-o) (same name dot-type) three))
     (at dot-p p)
     (either (same name dot-i || same name dot-o || same name dot-type) (same name dot-p) e)
+
+-- a keyword is kept in one of four ways
+pub by-keyword : (Q : Line → Type 0) (name v : List ℕ) → Q (Inputs (min (value v) most)) → Q Output → Q Fr → Q (Terms (min (value v) most)) → Q (seen (keyword name v))
+unfolding seen
+by-keyword Q name v i o t p = cond-cases Q (same name dot-i) _ _ i (cond-cases Q (same name dot-o) _ _ o (cond-cases Q (same name dot-type) _ _ t p))
 
 -- a line that says a keyword says one of them
 abbrev pub proper : Says → Bool
@@ -377,7 +383,7 @@ module _ (k : Known) (said : List Says) (knows : Knows k said) where
 pub ends-seen : (s : Says) → ends-with (seen s) ≡ is-end s
 unfolding seen is-end
 ends-seen nothing = refl
-ends-seen (keyword name v) = cond-cases (λ l. ends-with l ≡ false) (same name dot-i) _ _ refl (cond-cases (λ l. ends-with l ≡ false) (same name dot-o) _ _ refl (cond-cases (λ l. ends-with l ≡ false) (same name dot-type) _ _ refl refl))
+ends-seen (keyword name v) = by-keyword (λ l. ends-with l ≡ false) name v refl refl refl refl
 ends-seen (term w ws) = refl
 ends-seen end = refl
 ends-seen malformed = refl

@@ -1,9 +1,8 @@
 -- The walk over the lines of a text: what remains decides, and what was kept is what the lines before said.
-use Prim.Native.Nat.{ℕ, suc, _+_, _*_, _-_, _^_, _≤_, _<_, min}
+use Prim.Native.Nat.{ℕ, suc, _+_, _*_, _-_, _^_, _≤_, _<_}
 use mathlib.Core.Path.{_≡_, refl, sym, ap, ap₂, _∙_, subst}
 use mathlib.Core.Bool.{Bool, true, false, cond, _&&_, _||_, false≢true}
-use mathlib.Core.List.{List, [], _∷_, _++_, map, append-nil, append-assoc}
-use native.Mathlib.Numerals.{add-one}
+use mathlib.Core.List.{List, [], _∷_, _++_, map, append-nil}
 use native.Mathlib.Omega.{arith}
 use borrow.Author.Tests.{eq-eqb, ne-eqb, ltb-true, ltb-false}
 use lib.Dec.{ltb, eqb}
@@ -11,21 +10,19 @@ use lib.ListN.{length, take, drop, length-append, length-drop, length-take, drop
 use lib.Seq.{sets, sets-eq, length-sets, drop-drop, take-at, append-snoc}
 use Rattle.answers.specs.declared.Fault.{Fault}
 use Rattle.answers.specs.Answers.{fault, sound}
-use Rattle.bits.proofs.Tests.{both-left, cond-cases}
-use Rattle.rules.specs.Lists.{some-in, count-in, passed-over, same}
-use Rattle.words.specs.Words.{value, lines, words, pieces, is-lf, is-hash}
-use Rattle.words.specs.Counted.{most}
+use Rattle.bits.proofs.Tests.{both-left}
+use Rattle.rules.specs.Lists.{some-in, count-in, passed-over}
+use Rattle.words.specs.Words.{lines, words, pieces, is-lf, is-hash}
 use Rattle.words.proofs.Pieces.{passed-over-within, pieces-step, bare-line, line-beyond}
 use Rattle.terms.specs.declared.Cube.{Cube}
 use Rattle.terms.specs.declared.Line.{Line}
-use Rattle.terms.specs.declared.Line.the-variants.{Inputs, Output, Fr, Terms}
-use Rattle.terms.specs.Terms.{Says, nothing, keyword, term, end, malformed, unknown, says, says-by, well-formed, output, cube-of, inputs-with, dot-i, dot-o, dot-type, on-char, off-char}
+use Rattle.terms.specs.Terms.{Says, nothing, keyword, term, end, malformed, unknown, says, says-by, output, inputs-with, dot-i, dot-o, on-char, off-char}
 use Rattle.terms.specs.Seen.{cube, no-cube, cube-seen, seen}
 use Rattle.tables.specs.declared.Known.{Known}
 use Rattle.tables.specs.declared.Scan.{Scan}
 use Rattle.tables.specs.Tables.{of-term, is-end, stands, complete, miscounted, told, line-code, first-faulty, table-fault, up-to-end, said-in, cube-with, cubes-with}
 use Rattle.tables.specs.Known.{nothing-known, code-by, more-if, learnt, ends-with, cube-in, kept, Gathered}
-use Rattle.tables.proofs.Knows.{Knows, proper, says-proper, term-passed, term-kept, cube-next, terms-most, cubes-most, code-known, learnt-known, ends-seen}
+use Rattle.tables.proofs.Knows.{Knows, says-proper, term-passed, term-kept, by-keyword, cube-next, code-known, learnt-known, ends-seen}
 
 -- ---- the cubes of one list, in their buffer
 
@@ -33,11 +30,7 @@ pub record Kept (c : ℕ) (said : List Says) (count : ℕ) (l : List ℕ) : Type
   pub room : length l ≡ 128
   pub stored : count ≤ 64 → take (2 * count) l ≡ cubes-with c said
 
--- a keyword is kept in one of four ways
-by-keyword : (Q : Line → Type 0) (name v : List ℕ) → Q (Inputs (min (value v) most)) → Q Output → Q Fr → Q (Terms (min (value v) most)) → Q (seen (keyword name v))
-unfolding seen
-by-keyword Q name v i o t p = cond-cases Q (same name dot-i) _ _ i (cond-cases Q (same name dot-o) _ _ o (cond-cases Q (same name dot-type) _ _ t p))
-
+-- a keyword has no cube
 keyword-cube : (name v : List ℕ) → cube-in (seen (keyword name v)) ≡ no-cube
 keyword-cube name v = by-keyword (λ l. cube-in l ≡ no-cube) name v refl refl refl refl
 

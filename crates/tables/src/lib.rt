@@ -1,11 +1,9 @@
 // Espresso tables with one output: a text is read into a function record, and a record is written as a text.
 ghost use mathlib.Core.Path.{_≡_};
-ghost use mathlib.Core.Bool.{cond};
 ghost use Prim.Native.Nat.{_^_, _≤_, _<_};
-ghost use lib.Dec.{eqb};
 ghost use lib.ListN.{length};
 ghost use lib.Seq.{sets};
-ghost use Rattle.tables.specs.Known.{nothing-known, all-known, if-repeated, inputs-code, term-code, end-code, code-by, more-if, learnt, ends-with, cube-in, kept, Gathered, Ready, record-reading};
+ghost use Rattle.tables.specs.Known.{all-known, if-repeated, inputs-code, term-code, end-code, code-by, more-if, learnt, ends-with, cube-in, kept, Gathered, Ready, record-reading};
 ghost use Rattle.tables.specs.Tables.{record-of, table-reading, table-head, table-of, table-writing};
 ghost use Rattle.writer.specs.Writing.{record-bytes};
 ghost use Rattle.answers.specs.Answers.{fault as fault-at, Delivered};

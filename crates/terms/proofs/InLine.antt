@@ -11,11 +11,9 @@ use lib.Dec.{ltb, eqb}
 use lib.ListN.{length, getD, take, drop, length-drop, drop-of-length-le}
 use lib.Seq.{drop-drop, getD-drop, getD-take, take-nil}
 use Rattle.bits.proofs.Tests.{below-or-not}
-use Rattle.rules.specs.Lists.{same, each-in, passed-over}
+use Rattle.rules.specs.Lists.{passed-over}
 use Rattle.words.specs.Words.{words, is-blank}
 use Rattle.words.proofs.Pieces.{passed-over-within, place-passes, some-before, words-from, words-none, words-step}
-use Rattle.terms.specs.declared.Cube.{Cube}
-use Rattle.terms.specs.declared.Line.{Line}
 use Rattle.terms.specs.declared.Line.the-variants.{Term}
 use Rattle.terms.specs.Terms.{term, dot, alone, second, keyword-line, says-by, well-formed}
 use Rattle.terms.specs.Seen.{seen, cube-seen, after}

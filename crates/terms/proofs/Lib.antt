@@ -4,3 +4,4 @@ pub mod InLine
 pub mod Cubes
 pub mod Written
 pub mod Writing
+pub mod Settled

@@ -166,7 +166,7 @@ pub fn digit(d: u8) -> u8
 }
 
 // Puts a number into the buffer from `start` on, in decimal, and says where it ends: the digits before the last by this function.
-pub fn put_decimal(x: u64, out: &mut [u8], start: usize) -> usize
+fn put_decimal(x: u64, out: &mut [u8], start: usize) -> usize
     requires { ⌜ start + length (decimal x) ≤ length (now out) ⌝ }
     ensures { λ r. ⌜ r ≡ start + length (decimal x) ⌝ }
     ensures { λ r. ⌜ now (out .exit) ≡ sets (now (out .entry)) start (decimal x) ⌝ }

@@ -9,7 +9,7 @@ use lib.ListN.{length}
 use Rattle.bits.proofs.Tests.{cond-cases}
 use Rattle.answers.specs.declared.Answer.{Answer}
 use Rattle.answers.specs.declared.Fault.{Fault}
-use Rattle.answers.specs.Answers.{fine, refused, fits, by, told, _or-else_}
+use Rattle.answers.specs.Answers.{refused, fits, by, told, _or-else_}
 use Rattle.answers.proofs.Faults.{chosen-elim}
 use Rattle.answers.proofs.Told.{told-fits}
 use Rattle.records.specs.Records.{first-fault, cube-code, clash-code}

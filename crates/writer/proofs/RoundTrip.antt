@@ -16,7 +16,7 @@ use Rattle.records.specs.Records.{inputs, on-count, off-count, off-at, on-list,
 use Rattle.records.proofs.Frame.{Framed, record-sound, header-good, ends-at-clash, reading-accepted}
 use Rattle.records.proofs.Cubes.{first-each, each-first}
 use Rattle.records.proofs.Meaning.{each-on, each-off}
-use Rattle.writer.specs.Writing.{record-bytes, cubes, writing}
+use Rattle.writer.specs.Writing.{record-bytes, writing}
 use Rattle.writer.proofs.Laws.{Sized, sizes-good, sizes-sound, Right, cubes-good, cubes-right}
 
 -- ---- an accepted record, written again

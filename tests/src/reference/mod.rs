@@ -1,4 +1,4 @@
-//! Document 01 in plain Rust, written from its text.
+//! Document 01 in plain Rust, written from its text; `table` from request W-201.
 //!
 //! Wherever 01 speaks of patterns, the patterns are gone through one by one and
 //! each input is looked at. This is slow on purpose: the calls under test work
@@ -16,6 +16,7 @@ pub mod pattern;
 pub mod programs;
 pub mod record;
 pub mod summary;
+pub mod table;
 pub mod two;
 pub mod wiring;
 pub mod writer;

@@ -9,6 +9,7 @@ mod matched;
 mod refused;
 mod several;
 mod shown;
+mod tables;
 mod usage;
 
 use std::ffi::OsStr;
@@ -22,6 +23,7 @@ use zap_tests::reference::pair::asks;
 use zap_tests::reference::pattern::{patterns, Cube, Function};
 use zap_tests::reference::programs::hex;
 use zap_tests::reference::record::function;
+use zap_tests::reference::table::read_table;
 use zap_tests::reference::wiring::Choice;
 
 // ---- Runs, and what they printed ----
@@ -144,13 +146,17 @@ fn examples() -> Vec<Example> {
     files.sort();
     files.retain(|file| {
         let name = name_of(file);
-        name.ends_with(".fn") || name.ends_with(".hex") && !name.ends_with(".claim.hex")
+        let is_function = [".fn", ".hex", ".pla"].iter().any(|end| name.ends_with(end));
+        is_function && !name.ends_with(".claim.hex")
     });
-    assert!(files.len() >= 10, "{files:?}");
+    assert!(files.len() >= 13, "{files:?}");
     let example = |file: PathBuf| {
         let content = fs::read(&file).expect("it can be read");
-        let is_hex = name_of(&file).ends_with(".hex");
-        let record = if is_hex { from_hex(&content) } else { content };
+        let record = match file.extension().and_then(OsStr::to_str) {
+            Some("hex") => from_hex(&content),
+            Some("pla") => read_table(&content, 261).1.expect("a table"),
+            _ => content,
+        };
         let f = function(&record, OF_F).expect("a function");
         Example { file, record, f }
     };

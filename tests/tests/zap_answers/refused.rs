@@ -36,7 +36,7 @@ pub fn header_codes() -> BTreeMap<u64, (String, String)> {
         let before = found.insert(number, (words.to_string(), place.to_string()));
         assert_eq!(before, None, "{number} twice");
     }
-    assert_eq!(found.len(), 19, "{found:?}");
+    assert_eq!(found.len(), 22, "{found:?}");
     found
 }
 

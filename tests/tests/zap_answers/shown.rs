@@ -153,15 +153,15 @@ fn every_example_is_shown_and_summed_up() {
     // The folder: a row for each function, and at the end what is none, by its names.
     let folder = repository().join("examples");
     let entries = fs::read_dir(&folder).expect("a folder");
-    let mut others: Vec<String> =
-        entries.map(|entry| name_of(&entry.expect("read").path())).collect();
+    let files = entries.map(|entry| entry.expect("read").path()).filter(|path| path.is_file());
+    let mut others: Vec<String> = files.map(|path| name_of(&path)).collect();
     others.retain(|name| table.iter().all(|(function, _)| function != name));
     others.sort();
-    assert_eq!(others.len(), 5, "as many as are listed: {others:?}");
+    assert!(others.len() > 5, "more than are listed: {others:?}");
     let text = run(&[&"summary", &folder]);
     answered(&text, 0);
     let (rows, end) = text.out.split_once("\n\n").expect("a table, and what follows");
-    let passed_over = format!("passed over 5 {}", others.join(", "));
+    let passed_over = format!("passed over {} {}, ..", others.len(), others[..5].join(", "));
     assert_eq!(end.split_whitespace().collect::<Vec<_>>().join(" "), passed_over);
     let rows: Vec<&str> = rows.lines().skip(1).collect();
     assert_eq!(rows.len(), table.len(), "{}", text.out);

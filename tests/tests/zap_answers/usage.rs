@@ -22,7 +22,8 @@ fn verbs() -> Vec<(String, String)> {
 fn every_verb_has_its_page() {
     let verbs = verbs();
     let names: Vec<&str> = verbs.iter().map(|(name, _)| &name[..]).collect();
-    assert_eq!(names, ["match", "check", "summary", "show", "explain", "help"]);
+    let expected = ["match", "check", "summary", "show", "explain", "table", "record", "help"];
+    assert_eq!(names, expected);
     for (name, usage) in &verbs {
         let page = zap(["help", name]);
         answered(&page, 0);
@@ -75,6 +76,8 @@ const WRONG: &[(&str, &[&str])] = &[
     ("sumary f", &["sumary", "did you mean summary?"]),
     ("shwo f", &["shwo", "did you mean show?"]),
     ("explian f g claim", &["explian", "did you mean explain?"]),
+    ("tabel f", &["tabel", "did you mean table?"]),
+    ("recrod f", &["recrod", "did you mean record?"]),
     ("help mach", &["mach", "did you mean match?"]),
     ("summarize f", &["summarize", "did you mean summary?"]),
     ("frobnicate f", &["frobnicate", "zap help"]),
@@ -85,18 +88,24 @@ const WRONG: &[(&str, &[&str])] = &[
     ("explain f g claim --detph 2", &["--detph", "did you mean --depth?"]),
     ("summary f --frobnicate", &["--frobnicate", "zap help summary"]),
     ("check f g claim --depth 2", &["check has no option --depth"]),
+    ("table f -o new --hex", &["table has no option --hex"]),
+    ("record f --ouput new", &["--ouput", "did you mean --output?"]),
     // Values.
     ("explain f g claim --depth x", &["--depth", "number"]),
     ("explain f g claim --depth=", &["--depth", "number"]),
     ("explain f g claim --depth -1", &["--depth", "number"]),
     ("explain f g claim --depth", &["--depth N"]),
     ("match f g -o", &["-o FILE"]),
+    ("table f -o", &["-o FILE"]),
+    ("record f --output", &["--output FILE"]),
     ("show f --json=1", &["--json", "no value"]),
     ("match f g --hex --hex", &["--hex", "twice"]),
     // Files.
     ("match - -", &["standard input", "once"]),
     ("check - g -", &["standard input", "once"]),
     ("match f g --hex", &["--hex", "-o"]),
+    ("record f --hex", &["--hex", "-o"]),
+    ("table cells", &["cells is a folder"]),
     ("match f g g -o claim", &["-o", "one g"]),
     ("match f cells -o claim", &["-o", "one g"]),
 ];
@@ -112,6 +121,10 @@ const MISUSED: &[(&str, &str)] = &[
     ("show f g", "show"),
     ("explain f g", "explain"),
     ("explain f g claim claim", "explain"),
+    ("table", "table"),
+    ("table f g", "table"),
+    ("record", "record"),
+    ("record f g -o new", "record"),
     ("help match show", "help"),
 ];
 

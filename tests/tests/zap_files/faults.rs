@@ -9,13 +9,16 @@ use zap_tests::command::{binary, command, repository, Folder, Ran};
 use zap_tests::random::Random;
 use zap_tests::reference::answer::Answer;
 use zap_tests::reference::programs::hex;
+use zap_tests::reference::table::read_table;
 
 use crate::ways::{numbers_in_json, utf_16};
 use crate::written::make_pipe;
 
 /// Wherever one file is wanted, by its verb and words; F is the one at fault.
-const ONE_WANTED: [&str; 8] = [
+const ONE_WANTED: [&str; 10] = [
     "show F",
+    "table F",
+    "record F",
     "match F g",
     "check F g c",
     "check g F c",
@@ -24,6 +27,9 @@ const ONE_WANTED: [&str; 8] = [
     "explain g F c",
     "explain g g F",
 ];
+
+/// Those of them where it is a claim, which no text can be that is not hex.
+const CLAIM_WANTED: [&str; 2] = ["check g g F", "explain g g F"];
 
 /// Where a folder would stand for its files.
 const ANY_NUMBER: [&str; 2] = ["summary F", "match g F"];
@@ -60,41 +66,92 @@ fn everywhere() -> Vec<&'static str> {
     [&ONE_WANTED[..], &ANY_NUMBER].concat()
 }
 
+const NO_HEX: [(&str, usize, usize, &str); 17] = [
+    ("46 4G", 1, 5, "'G'"),
+    ("46 4E\n\n 02 zz", 3, 5, "'z'"),
+    ("46 4E\r\n02\tx1", 2, 4, "'x'"),
+    ("46;4E", 1, 3, "';'"),
+    ("\"46\"", 1, 1, "'\"'"),
+    ("46 4E # fine\n# \u{e4}\u{f6}\n46 \u{e4}", 3, 4, "'\u{e4}'"),
+    ("46 \u{1F600}", 1, 4, "'\u{1F600}'"),
+    ("\u{feff}46 4\u{e9}", 1, 5, "'\u{e9}'"),
+    ("0xg", 1, 3, "'g'"),
+    ("46 4E 2 01", 1, 7, "2 "),
+    ("46 4E\n2", 2, 1, "2 "),
+    ("46 4E021 00", 1, 4, "4E021 "),
+    ("46,0x4E1", 1, 4, "0x4E1 "),
+    ("46 0x", 1, 4, "0x "),
+    ("46 0x\n4E", 1, 4, "0x "),
+    ("0x,46", 1, 1, "0x "),
+    ("0x#", 1, 1, "0x "),
+];
+
+/// A file whose name says hex is hex, and so is every claim.
 #[test]
 fn text_that_is_no_hex() {
-    let cases = [
-        ("46 4G", 1, 5, "'G'"),
-        ("46 4E\n\n 02 zz", 3, 5, "'z'"),
-        ("46 4E\r\n02\tx1", 2, 4, "'x'"),
-        ("46;4E", 1, 3, "';'"),
-        ("\"46\"", 1, 1, "'\"'"),
-        ("46 4E # fine\n# \u{e4}\u{f6}\n46 \u{e4}", 3, 4, "'\u{e4}'"),
-        ("46 \u{1F600}", 1, 4, "'\u{1F600}'"),
-        ("\u{feff}46 4\u{e9}", 1, 5, "'\u{e9}'"),
-        ("0xg", 1, 3, "'g'"),
-        ("46 4E 2 01", 1, 7, "2 "),
-        ("46 4E\n2", 2, 1, "2 "),
-        ("46 4E021 00", 1, 4, "4E021 "),
-        ("46,0x4E1", 1, 4, "0x4E1 "),
-        ("46 0x", 1, 4, "0x "),
-        ("46 0x\n4E", 1, 4, "0x "),
-        ("0x,46", 1, 1, "0x "),
-        ("0x#", 1, 1, "0x "),
-    ];
     let folder = Folder::new();
-    for (text, line, column, what) in cases {
-        folder.write("f", text);
+    for (text, line, column, what) in NO_HEX {
         let place = format!("; line {line}, column {column}: {what}");
-        let told = |why: &str| why.starts_with("f: taken for hex") && why.contains(&place);
-        expect_trouble(&folder, &everywhere(), "f", told);
-        let piped = Ran::of(command().args(["summary", "-"]), text.as_bytes());
-        let told = piped.err.starts_with("zap: standard input: ") && piped.err.contains(&place);
-        assert!(told && piped.status == 2, "{text:?}: {piped:?}");
+        for (file, places) in
+            [("f.hex", &everywhere()[..]), ("f.fn", &["summary F"]), ("f", &CLAIM_WANTED)]
+        {
+            folder.write(file, text);
+            let start = format!("{file}: taken for hex, as it is text without a mark at its start");
+            let told = |why: &str| why.starts_with(&start) && why.contains(&place);
+            expect_trouble(&folder, places, file, told);
+        }
     }
     // A long group is not told whole.
-    folder.write("f", "4".repeat(100_001));
+    folder.write("f.hex", "4".repeat(100_001));
     let told = |why: &str| why.contains("line 1, column 1: 4444") && why.len() < 300;
-    expect_trouble(&folder, &["summary F"], "f", told);
+    expect_trouble(&folder, &["summary F"], "f.hex", told);
+}
+
+/// Any other function is then a table: refused where its first term stands, and it is
+/// told as well why it is no hex.
+#[test]
+fn text_that_is_neither_hex_nor_a_table() {
+    let folder = Folder::new();
+    for (text, line, column, what) in NO_HEX {
+        folder.write("f", text);
+        let (answer, _) = read_table(text.trim_start_matches('\u{feff}').as_bytes(), 261);
+        assert_eq!(answer.code, 21, "{text}");
+        let why = format!("line {line}, column {column}: {what}");
+        expect_table_refused(&folder, "f", answer.place, &why);
+        let piped = Ran::of(command().args(["summary", "-"]), text.as_bytes());
+        let start = "standard input, taken for a table: refused: ";
+        let told = piped.out.starts_with(start) && piped.out.contains(&why);
+        assert!(told && piped.status == 2, "{text:?}: {piped:?}");
+    }
+}
+
+/// Refused by 21 at this line, and no hex for this reason, wherever it is a function.
+fn expect_table_refused(folder: &Folder, file: &str, line: u64, why: &str) {
+    folder.write("g", WIRE);
+    folder.write("c", "4D 54 01 00 00");
+    let places = everywhere().into_iter().filter(|words| !CLAIM_WANTED.contains(words));
+    for words in places {
+        // f is the first file, g the second.
+        let record = words.split(' ').position(|word| word == "F").expect("a function") as u64;
+        let words: Vec<&str> =
+            words.split(' ').map(|word| if word == "F" { file } else { word }).collect();
+        let run = |more: &[&str]| {
+            Ran::of(command().current_dir(folder.path()).args(&words).args(more), b"")
+        };
+        let ran = run(&[]);
+        let told = [
+            format!("{file}, taken for a table"),
+            format!("missing before the first term (code 21), at line {line}; it is no hex either: {why}"),
+        ];
+        assert!(told.iter().all(|part| ran.out.contains(part)), "{words:?}: {ran:?}");
+        assert_eq!((ran.err.as_str(), ran.status), ("", 2), "{words:?}");
+        let json = run(&["--json"]);
+        let numbers = numbers_in_json(Answer::refused(21, record, line as usize));
+        let parts =
+            [numbers, "\"taken_for\":\"table\"".to_string(), "\"no_hex\":\"line ".to_string()];
+        assert!(parts.iter().all(|part| json.out.contains(part)), "{words:?}: {json:?}");
+        assert_eq!((json.out.lines().count(), json.status), (1, 2), "{words:?}");
+    }
 }
 
 /// All that may stand between groups is text: it makes no file binary.
@@ -102,9 +159,9 @@ fn text_that_is_no_hex() {
 fn white_space_is_text() {
     let folder = Folder::new();
     for blank in ["\t", "\x0B", "\x0C", "\r"] {
-        folder.write("f", format!("46{blank}4G"));
+        folder.write("f.hex", format!("46{blank}4G"));
         let told = |why: &str| why.contains("; line 1, column 5: 'G'");
-        expect_trouble(&folder, &["summary F"], "f", told);
+        expect_trouble(&folder, &["summary F"], "f.hex", told);
     }
 }
 
@@ -113,11 +170,14 @@ fn white_space_is_text() {
 fn wide_text_that_is_no_hex() {
     let folder = Folder::new();
     for unit in [u16::to_le_bytes, u16::to_be_bytes] {
-        folder.write("f", utf_16("46 4E\r\n02 4G 01", unit));
-        let told = |why: &str| {
-            why.starts_with("f: taken for hex") && why.contains("; line 2, column 5: 'G'")
-        };
-        expect_trouble(&folder, &everywhere(), "f", told);
+        for (file, places) in [("f.hex", &everywhere()[..]), ("f", &CLAIM_WANTED)] {
+            folder.write(file, utf_16("46 4E\r\n02 4G 01", unit));
+            let start = format!("{file}: taken for hex");
+            let told =
+                |why: &str| why.starts_with(&start) && why.contains("; line 2, column 5: 'G'");
+            expect_trouble(&folder, places, file, told);
+        }
+        expect_table_refused(&folder, "f", 1, "line 2, column 5: 'G'");
     }
 }
 
@@ -142,7 +202,18 @@ fn a_text_for_a_function() {
     let name = readme.to_str().expect("text");
     let start =
         format!("{name}: taken for hex, as it is text without a mark at its start; line {line}, ");
-    expect_trouble(&Folder::new(), &everywhere(), name, |why| why.starts_with(&start));
+    let folder = Folder::new();
+    expect_trouble(&folder, &CLAIM_WANTED, name, |why| why.starts_with(&start));
+    expect_table_refused(&folder, name, line as u64, &format!("line {line}, column "));
+}
+
+/// A table is no claim, and it is said so.
+#[test]
+fn a_table_for_a_claim() {
+    let folder = Folder::new();
+    folder.write("f", "# a table\n.i 1\n");
+    let why = "f begins as a table does, and a claim is wanted here";
+    expect_trouble(&folder, &CLAIM_WANTED, "f", |told| told == why);
 }
 
 /// Where the archive answers: the words that show it, and the same in an object. A
@@ -153,6 +224,8 @@ fn expect_refusals(folder: &Folder, file: &str, [code, place]: [u64; 2], taken: 
     let cases = [
         ("summary F", 1),
         ("show F", 1),
+        ("table F", 1),
+        ("record F", 1),
         ("match F g", 1),
         ("match g F", 2),
         ("check F g c", 1),

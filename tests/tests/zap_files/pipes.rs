@@ -92,7 +92,7 @@ fn a_claim_whose_reader_closes_early() {
 }
 
 /// Of every verb, and of every sort of answer.
-pub const EVERY_VERB: [&str; 19] = [
+pub const EVERY_VERB: [&str; 25] = [
     "match conj disj",
     "match conj odd",
     "match conj disj odd",
@@ -106,6 +106,12 @@ pub const EVERY_VERB: [&str; 19] = [
     "summary conj disj empty",
     "show conj",
     "show empty",
+    "show bad.pla",
+    "table conj",
+    "table conj -o -",
+    "table bad.pla",
+    "record conj",
+    "record empty",
     "explain conj disj m",
     "explain f g c --depth 4",
     "explain conj odd m",
@@ -118,6 +124,7 @@ pub fn for_every_verb() -> Folder {
     let folder = with_long_refusal();
     folder.write("m", CONJ_DISJ_CLAIM);
     folder.write("empty", "");
+    folder.write("bad.pla", ".i 2\n.o 1\n.type fr\n1x 1\n");
     folder
 }
 

@@ -98,6 +98,7 @@ fn colour_on_a_terminal_alone() {
         ("check conj odd m", format!("{bad}refused{end}: ")),
         ("explain conj disj m", format!("{good}accepted{end}: ")),
         ("show empty", format!("{bad}refused{end}: ")),
+        ("show bad.pla", format!("{bad}refused{end}: ")),
     ] {
         let plain = Ran::of(&mut with_term(&folder, words, "xterm"), b"");
         let both = on_terminal(with_term(&folder, words, "xterm"), [true, true]);

@@ -1,6 +1,6 @@
 -- Line by line: a fault stops the walk, an end without fault ends it, every other line is learnt and its cube kept.
 use Prim.Native.Nat.{ℕ, _+_, _*_, _-_, _^_, _<_}
-use mathlib.Core.Path.{_≡_, refl, sym, ap, _∙_}
+use mathlib.Core.Path.{refl, sym, ap, _∙_}
 use native.Mathlib.Omega.{arith}
 use borrow.Author.Needs.{needs}
 use borrow.Author.Tests.{eqb-false}

@@ -1,5 +1,4 @@
 -- Told before, or outside 1 to 8, or right.
-use native.Mathlib.Omega.{arith}
 use borrow.Author.Tests.{lt-ltb, le-ltb, le-leb, lt-leb}
 use Rattle.tables.proofs.inputs_fault.Statement.{statement}
 use Rattle.tables.proofs.inputs_fault.Tie as tie

@@ -1,6 +1,6 @@
 -- Each keyword by its letters; the tests that failed before it do not matter, but for a word that is none.
 use Prim.Native.Nat.{ℕ}
-use mathlib.Core.Path.{_≡_, refl, sym, ap, _∙_}
+use mathlib.Core.Path.{_≡_, sym, ap, _∙_}
 use mathlib.Core.Bool.{Bool, true, false, cond}
 use mathlib.Core.List.{List}
 use borrow.Author.Needs.{needs}
@@ -9,8 +9,8 @@ use Rattle.rules.proofs.Lists.{same-is}
 use Rattle.words.specs.declared.Counted.{Counted}
 use Rattle.terms.specs.declared.Line.{Line}
 use Rattle.terms.specs.declared.Line.the-variants.{Output, Inputs, Fr, Terms, Malformed}
-use Rattle.terms.specs.Terms.{keyword-line, dot-i, dot-o, one, dot-type, fr, dot-p, dot-e}
-use Rattle.terms.specs.Seen.{seen, after, numbered}
+use Rattle.terms.specs.Terms.{keyword-line, dot-i, dot-o, dot-type, dot-p, dot-e}
+use Rattle.terms.specs.Seen.{seen, after}
 use Rattle.terms.proofs.Keywords.{line-e, line-o, line-type, line-i, line-p, line-unknown}
 use Rattle.terms.proofs.keyword.Statement.{statement}
 use Rattle.terms.proofs.keyword.Tie as tie

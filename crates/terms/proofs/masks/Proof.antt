@@ -1,8 +1,8 @@
 -- After i characters the masks are those of the first i inputs, and the characters that remain decide whether it is a term.
-use Prim.Native.Nat.{ℕ, suc, _+_, _*_, _-_, _^_, _≤_, _<_}
+use Prim.Native.Nat.{ℕ, _+_, _*_, _-_, _^_, _≤_, _<_}
 use mathlib.Core.Path.{_≡_, refl, sym, ap, _∙_, subst}
 use mathlib.Core.Bool.{Bool, true, false, cond, _&&_}
-use mathlib.Core.List.{List, [], _∷_}
+use mathlib.Core.List.{List}
 use native.Mathlib.Numerals.{add-one}
 use native.Mathlib.Omega.{arith}
 use native.Mathlib.Nat.{pow-suc}
@@ -15,7 +15,7 @@ use lib.Seq.{drop-cons}
 use Rattle.bits.specs.Bits.{mask, number}
 use Rattle.bits.proofs.Mask.{mask-lt}
 use Rattle.rules.specs.Lists.{each-in}
-use Rattle.terms.specs.Terms.{is-input, inputs-with, on-char, off-char}
+use Rattle.terms.specs.Terms.{is-input, on-char, off-char}
 use Rattle.terms.specs.Seen.{cube as cube-as}
 use Rattle.terms.proofs.masks.Statement.{statement}
 use Rattle.terms.proofs.masks.Tie as tie

@@ -4,7 +4,6 @@ use mathlib.Core.Path.{_≡_, refl, sym, ap, _∙_}
 use mathlib.Core.List.{List, [], _∷_}
 use native.Mathlib.Omega.{arith}
 use borrow.Author.Needs.{needs}
-use lib.ListN.{length}
 use Rattle.words.specs.Words.{words}
 use Rattle.terms.specs.declared.Line.the-variants.{Nothing, Term}
 use Rattle.terms.specs.Terms.{term, says-by}
