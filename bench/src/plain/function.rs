@@ -43,7 +43,15 @@ impl<'a> Cubes<'a> {
 
     /// The first cube that has a pattern in common with some cube of the other list.
     pub fn first_shared(self, other: Cubes) -> Option<usize> {
-        self.iter().position(|one| other.iter().any(|other| !one.apart(other)))
+        self.0.iter().position(|&[p, n]| {
+            // P against N and N against P as one mask, and no early end: so several cubes
+            // are tested at once.
+            let opposite = u16::from_ne_bytes([n, p]);
+            other
+                .0
+                .iter()
+                .fold(false, |any, &cube| any | (opposite & u16::from_ne_bytes(cube) == 0))
+        })
     }
 
     fn split_at(self, index: usize) -> (Cubes<'a>, Cubes<'a>) {
