@@ -6,3 +6,5 @@ pub mod Claims
 pub mod Matcher
 pub mod Rejected
 pub mod Programs
+pub mod Tables
+pub mod TableRows

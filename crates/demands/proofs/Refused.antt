@@ -10,7 +10,7 @@ use lib.ListN.{length, replicate}
 use Rattle.bits.specs.Bits.{bit, number, every, any, count}
 use Rattle.cubes.specs.Cubes.{cube-holds, cubes-share, some-cube}
 use Rattle.answers.specs.declared.Answer.{Answer}
-use Rattle.answers.specs.Answers.{accepted, refused, _then_, _or-else_, by, byte-fault, length-fault, fits, buffer-after}
+use Rattle.answers.specs.Answers.{accepted, refused, _then_, _or-else_, by, byte-fault, length-fault, fits, buffer-after, Delivered}
 use Rattle.rules.specs.Lists.{run, filter, first, some-in}
 use Rattle.rules.specs.Rules.{completions}
 use Rattle.records.specs.Records.{on-list, off-list, cube-code, clash-code, first-fault, header-bytes, header-fault, record-fault, both-read, reading, bytes-at-fault, memory-at-fault}
@@ -87,12 +87,17 @@ wrong-checkers-ruled-out = (refl, (refl, (refl, (refl, (refl, (refl, (refl, (ref
 
 -- ---- the matcher: the answer at each of these cases is settled, and so is the buffer afterwards
 
+-- of a call that lends a buffer: what the contract names is the outcome
+pub delivered-as : (named : Answer) (bytes before after : List ℕ) (r answer : Answer) (left : List ℕ) → Delivered named bytes before after r
+    → (named ≡ answer) × (buffer-after answer bytes before ≡ left) → (r ≡ answer) × (after ≡ left)
+delivered-as named bytes before after r answer left d e =
+    (d .returned ∙ e .0, d .buffer ∙ ap (λ (x : Answer). buffer-after x bytes before) (e .0) ∙ e .1)
+
 pub matcher-answers : (κs : Lfts 3) (a : Dens κs find-kinds.ps) (f g before after : List ℕ) (answer : Answer)
     → (matching f g (length before) ≡ answer) × (buffer-after answer (claim-for f g) before ≡ after)
     → (r : resT find-kinds.r κs .Denot) (s : AtExit (endedOf 3 find-kinds.ps find-kinds.r) κs)
     → find.Post κs (at-last (a .0) f, (at-last (a .1 .0) g, (at-last (a .1 .1 .0) before, tt))) r s → (r ≡ answer) × (s .1 .1 .0 .now ≡ after)
-matcher-answers κs a f g before after answer e r s p =
-    (p .returned ∙ e .0, p .buffer ∙ ap (λ (x : Answer). buffer-after x (claim-for f g) before) (e .0) ∙ e .1)
+matcher-answers κs a f g before after answer e r s p = delivered-as _ _ _ _ r answer after p e
 
 -- f is on where x2·x0′ and off where x2′, g on where y0·y1′ and off where y0′: the first wiring is x0 = y0′, x1 = y2, x2 = y1′. With j
 -- the wrong way round the bytes would be 10 12 01

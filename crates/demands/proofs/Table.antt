@@ -17,6 +17,7 @@ use Rattle.claims.specs.Claims.{own-tree}
 use Rattle.claims.specs.Reading.{_onward_, in-turn, read-tree}
 use Rattle.checker.specs.Checking.{header-fault as claim-header, choice-code, choices-fault, match-fault, index-fault, closing-fault, tree-fault, refusal-fault, claim-fault, kind-of, checking}
 use Rattle.matcher.specs.Matching.{first-agreeing, claim-of, kind-found, claim-for, matching}
+use Rattle.tables.specs.Tables.{record-of, table-reading, table-of, table-writing}
 
 -- ---- the functions of "Small functions to try"
 
@@ -62,11 +63,15 @@ pub data Row : Type 0 where
   summary-of : List ℕ → ℕ → ℕ → ℕ → Row
   check-of : List ℕ → List ℕ → List ℕ → Answer → Row
   match-of : List ℕ → List ℕ → List ℕ → Answer → List ℕ → Row
+  reads-of : List ℕ → List ℕ → Answer → List ℕ → Row
+  writes-of : List ℕ → List ℕ → Answer → List ℕ → Row
 
 abbrev pub Right : Row → Type 0
 Right (summary-of s on off used) = summing s ≡ with-figures (accepted 3 (length s)) on off used
 Right (check-of f g c answer) = checking f g c ≡ answer
 Right (match-of f g before answer after) = (matching f g (length before) ≡ answer) × (buffer-after answer (claim-for f g) before ≡ after)
+Right (reads-of text before answer after) = (table-reading text (length before) ≡ answer) × (buffer-after answer (record-of text) before ≡ after)
+Right (writes-of s before answer after) = (table-writing s (length before) ≡ answer) × (buffer-after answer (table-of s) before ≡ after)
 
 abbrev pub AllRight : List Row → Type 0
 AllRight [] = Unit {0}

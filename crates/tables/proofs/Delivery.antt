@@ -97,7 +97,7 @@ cube-right w = simp (any-none (λ i. leb (length w) i && (has P i || has N i)) 8
     twice : (i : ℕ) → has P i && has N i ≡ true → ⊥
     twice i e = omega (arith, marked on-char i (both-left (has P i) _ e), marked off-char i (both-right (has P i) _ e))
 
-each-right : (n c : ℕ) (said : List Says) → each-in (term-right n) said ≡ true → Each (λ P N. cube-code n P N ≡ 0) (cubes-with c said)
+pub each-right : (n c : ℕ) (said : List Says) → each-in (term-right n) said ≡ true → Each (λ P N. cube-code n P N ≡ 0) (cubes-with c said)
 unfolding Each cubes-with each-in of-term
 each-right n c [] e = tt
 each-right n c (nothing ∷ said) e = each-right n c said e

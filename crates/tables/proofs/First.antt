@@ -169,11 +169,13 @@ unfoldable pub asks-22 : List Says → Says → Bool
 asks-22 said s = is-end s && miscounted said
 
 -- in this order, but 21 before 20 at a term
-pub code-in-order : (said : List Says) (s : Says)
-    → line-code said s ≡
+abbrev pub first-asked : List Says → Says → ℕ
+first-asked said s =
     cond (is-term s)
     (cond (asks-21 said s) 21 (cond (asks-20 said s) 20 0))
     (cond (asks-20 said s) 20 (cond (asks-21 said s) 21 (cond (asks-3 s) 3 (cond (asks-22 said s) 22 0))))
+
+pub code-in-order : (said : List Says) (s : Says) → line-code said s ≡ first-asked said s
 unfolding line-code asks-20 asks-21 asks-3 asks-22 of-keyword of-term is-end
 code-in-order said nothing = refl
 code-in-order said (keyword name v) = refl

@@ -234,7 +234,7 @@ module _ (k k′ : Known) (said : List Says) (s : Says) where
       same-cubes c = cube-next c said s ∙ ap (λ (l : List ℕ). cubes-with c said ++ l) (none c) ∙ append-nil (cubes-with c said)
 
 -- what a line without fault has shown
-keyword-passed : (said : List Says) (name v : List ℕ) → line-code said (keyword name v) ≡ 0
+pub keyword-passed : (said : List Says) (name v : List ℕ) → line-code said (keyword name v) ≡ 0
     → (stands name said ≡ false) × (same name dot-i && not (leb 1 (value v) && leb (value v) 8) ≡ false)
 unfolding line-code
 keyword-passed said name v e = go (stands name said) (same name dot-i && not (leb 1 (value v) && leb (value v) 8)) refl refl e
@@ -253,7 +253,7 @@ term-passed said w ws e = go (complete said) (well-formed (told dot-i said) w ws
     go true false b z = absurd (omega (arith, z))
     go false u b z = absurd (omega (arith, z))
 
-in-range : (v : ℕ) → not (leb 1 v && leb v 8) ≡ false → (1 ≤ v) × (v ≤ 8)
+pub in-range : (v : ℕ) → not (leb 1 v && leb v 8) ≡ false → (1 ≤ v) × (v ≤ 8)
 in-range v e = let t = not-false (leb 1 v && leb v 8) e in (leb-true 1 v (both-left (leb 1 v) _ t), leb-true v 8 (both-right (leb 1 v) _ t))
 
 -- a cube more, if the term has that output

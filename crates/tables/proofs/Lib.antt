@@ -5,5 +5,6 @@ pub mod Meaning
 pub mod Delivery
 pub mod RoundTrip
 pub mod Export
+pub mod Codes
 pub mod Places
 pub mod Settled

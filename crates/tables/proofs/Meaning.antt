@@ -123,7 +123,7 @@ cubes-even c (unknown ∷ said) = cubes-even c said
 -- ---- before the end of a text without fault each term is well-formed
 
 -- a number that stands is not told otherwise later
-told-stays : (name : List ℕ) (said more : List Says) → stands name said ≡ true → told name (said ++ more) ≡ told name said
+pub told-stays : (name : List ℕ) (said more : List Says) → stands name said ≡ true → told name (said ++ more) ≡ told name said
 unfolding some-in told
 told-stays name [] more h = absurd (false≢true h)
 told-stays name (s ∷ said) more h = go (is-of name s) h (told-stays name said more)

@@ -224,7 +224,7 @@ module _ (text : List ℕ) (at row : ℕ) (k : Known) (on off : List ℕ) (w : S
       )
 
 -- at an end without fault the three keywords stand
-end-complete : (said : List Says) (s : Says) → is-end s ≡ true → line-code said s ≡ 0 → complete said ≡ true
+pub end-complete : (said : List Says) (s : Says) → is-end s ≡ true → line-code said s ≡ 0 → complete said ≡ true
 unfolding is-end line-code
 end-complete said nothing e z = absurd (false≢true e)
 end-complete said (keyword name v) e z = absurd (false≢true e)
