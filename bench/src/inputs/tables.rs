@@ -46,7 +46,6 @@ pub fn large_tables() -> Vec<Tables> {
         row("10,000 tables, 2 to 8 terms, n 2 to 4", Call::Read, small(small_text), 1),
         row("64 + 64 terms, n 8, as written", Call::Read, vec![written], 100),
         row("10,000 records, 2 to 6 cubes, n 2 to 4", Call::Write, small(small_record), 1),
-        row("64 + 64 cubes, n 8", Call::Write, vec![record(&full)], 100),
     ]
 }
 
@@ -145,8 +144,8 @@ fn terms(random: &mut Random, f: &Function) -> Vec<String> {
     terms
 }
 
-/// The terms of f, far apart: between them are comments, and every fourth line is
-/// blank.
+/// The terms of f, far apart: between them are comments and, about every fourth line,
+/// blanks.
 fn long_text(random: &mut Random, f: &Function, length: usize) -> Vec<u8> {
     let mut text = Text { bytes: vec![], end: "\n" };
     text.head(f.n);
@@ -187,10 +186,13 @@ fn small_text(random: &mut Random) -> Vec<u8> {
         match random.below(16) {
             0 => text.comment(random),
             1 => text.blanks(random),
-            2 => text.line(&format!(" {term}\t# a term")),
             _ => {}
         }
-        text.line(term);
+        if random.below(16) == 0 {
+            text.line(&format!(" {term}\t# a term"));
+        } else {
+            text.line(term);
+        }
     }
     text.line(".e");
     text.bytes
@@ -233,60 +235,17 @@ fn damage(random: &mut Random, bytes: &[u8], put: &[u8]) -> Vec<u8> {
 
 /// Lines that a table may have or almost have, mostly after the right first ones.
 fn jumble(random: &mut Random) -> Vec<u8> {
-    const LINES: &[&str] = &[
-        ".i 2",
-        ".i 02",
-        ".i 0",
-        ".i 9",
-        ".i +2",
-        ".i",
-        ".i 2 2",
-        ".i2",
-        ".I 2",
-        ".i 2#2",
-        ".i 99999999999999999999",
-        ".o 1",
-        ".o 01",
-        ".o 2",
-        ".o",
-        ".o 1 1",
-        ".type fr",
-        ".type f",
-        ".type fr fr",
-        ".type",
-        ".p 0",
-        ".p 1",
-        ".p 2",
-        ".p 003",
-        ".p x",
-        ".p",
-        ".p 18446744073709551617",
-        ".e",
-        " .e end",
-        ".e#",
-        ".end",
-        ".",
-        ".ilb a b",
-        "11 1",
-        "1- 0",
-        "-0\t\t~",
-        " -- -\r",
-        "00 1 # on",
-        "111",
-        "11",
-        "1 1 1",
-        "11 1 1",
-        "11 2",
-        "12 1",
-        "11#1",
-        "1",
-        "",
-        " \t\r",
-        "# .i 2",
-        "\u{B}11 1",
-        "\0",
-    ];
-    let end = ["\n", "\r\n", "\r"][random.below(16).saturating_sub(13)];
+    const LINES: &str = ".i 2|.i 02|.i 0|.i 9|.i +2|.i|.i 2 2|.i2|.I 2|.i 2#2|\
+        .i 99999999999999999999|.o 1|.o 01|.o 2|.o|.o 1 1|.type fr|.type f|.type fr fr|.type|\
+        .p 0|.p 1|.p 2|.p 003|.p x|.p|.p 18446744073709551617|.e| .e end|.e#|.end|.|.ilb a b|\
+        11 1|1- 0|-0\t\t~| -- -\r|00 1 # on|111|11|1 1 1|11 1 1|11 2|12 1|11#1|1|| \t\r|# .i 2|\
+        \x0B11 1|\0";
+    let lines: Vec<&str> = LINES.split('|').collect();
+    let end = match random.below(8) {
+        0 => "\r",
+        1..=3 => "\r\n",
+        _ => "\n",
+    };
     let mut text = Text { bytes: vec![], end };
     let mut head = [".i 2", ".o 1", ".type fr"];
     head.swap(0, random.below(3));
@@ -294,7 +253,7 @@ fn jumble(random: &mut Random) -> Vec<u8> {
         text.line(line);
     }
     for _ in 0..random.below(7) {
-        text.line(LINES[random.below(LINES.len())]);
+        text.line(lines[random.below(lines.len())]);
     }
     if random.below(4) != 0 {
         text.line(".e");

@@ -20,7 +20,8 @@ use Rattle.records.specs.Records.{on-list, off-list, cube-code, clash-code, fir
 use Rattle.writer.specs.Writing.{record-bytes}
 use Rattle.words.specs.Words.{onto, pieces, read-on, decimal-within, line}
 use Rattle.terms.specs.Terms.{keyword-line, says-by, well-formed, term-lines}
-use Rattle.tables.specs.Tables.{of-keyword, of-term, is-end, told, line-code, first-faulty, table-fault, up-to-end, cubes-with, record-of, table-reading, table-head, table-of, table-writing}
+use Rattle.rows.specs.Rows.{of-keyword, of-term, is-end, told, line-code, first-faulty, table-fault, up-to-end, cubes-with}
+use Rattle.tables.specs.Tables.{record-of, table-reading, table-head, table-of, table-writing}
 use Rattle.demands.proofs.Table.{Conj, Open, Row, reads-of, writes-of, Right, AllRight}
 use Rattle.demands.proofs.Refused.{delivered-as}
 use Rattle.tables.proofs.read_table.Kinds as read-kinds

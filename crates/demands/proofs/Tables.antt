@@ -20,8 +20,9 @@ use Rattle.answers.proofs.Told.{told-fits}
 use Rattle.records.specs.Records.{record-fault, reading, Bytes}
 use Rattle.words.specs.Words.{lines}
 use Rattle.terms.specs.Terms.{Says, says}
-use Rattle.tables.specs.Tables.{table-fault, record-of, table-reading, table-of, table-writing}
-use Rattle.tables.proofs.First.{line-at, FirstFaulty, first-faulty-named, first-asked, code-in-order}
+use Rattle.rows.specs.Rows.{table-fault}
+use Rattle.tables.specs.Tables.{record-of, table-reading, table-of, table-writing}
+use Rattle.rows.proofs.First.{line-at, FirstFaulty, first-faulty-named, first-asked, code-in-order}
 use Rattle.tables.proofs.Meaning.{Meaning, table-means}
 use Rattle.tables.proofs.RoundTrip.{record-back, table-back as table-read-back}
 use Rattle.tables.proofs.Codes.{of-lines, fault-codes, AfterLines, after-not-of-lines, after-lines}

@@ -24,11 +24,12 @@ use Rattle.records.proofs.Places.{first-codes}
 use Rattle.writer.proofs.RoundTrip.{clash-again}
 use Rattle.words.specs.Words.{lines, value}
 use Rattle.terms.specs.Terms.{Says, nothing, keyword, term, end, malformed, unknown, says, dot-i, dot-o, on-char, off-char}
-use Rattle.tables.specs.Tables.{of-keyword, is-of, stands, told, line-code, table-fault, said-in, cubes-with, record-of, table-reading}
-use Rattle.tables.specs.Known.{record-reading}
-use Rattle.tables.proofs.First.{line-at, AllPassed, walk, whole-if, whole-front, is-term, asks-20, asks-21, asks-3, asks-22, code-in-order}
-use Rattle.tables.proofs.Knows.{stands-next, told-new, keyword-passed, in-range}
-use Rattle.tables.proofs.Scanned.{end-complete}
+use Rattle.rows.specs.Rows.{of-keyword, is-of, stands, told, line-code, table-fault, said-in, cubes-with}
+use Rattle.tables.specs.Tables.{record-of, table-reading}
+use Rattle.tables.specs.Ready.{record-reading}
+use Rattle.rows.proofs.First.{line-at, AllPassed, walk, whole-if, whole-front, is-term, asks-20, asks-21, asks-3, asks-22, code-in-order}
+use Rattle.rows.proofs.Knows.{stands-next, told-new, keyword-passed, in-range}
+use Rattle.rows.proofs.Scanned.{end-complete}
 use Rattle.tables.proofs.Meaning.{told-stays, terms-right, cubes-even}
 use Rattle.tables.proofs.Delivery.{each-right, many-on, many-off}
 

@@ -24,10 +24,12 @@ use Rattle.writer.specs.Writing.{record-bytes}
 use Rattle.writer.proofs.Laws.{Sized}
 use Rattle.writer.proofs.RoundTrip.{clash-again}
 use Rattle.terms.specs.Terms.{Says, nothing, keyword, term, end, malformed, unknown, on-char, off-char, output, cube-of, inputs-with, well-formed, dot-i}
-use Rattle.tables.specs.Tables.{of-term, told, table-fault, said-in, cubes-with, record-of, table-reading}
-use Rattle.tables.specs.declared.Scan.{Scan}
-use Rattle.tables.specs.Known.{Gathered, Ready, record-reading}
-use Rattle.tables.proofs.Knows.{own-length}
+use Rattle.rows.specs.Rows.{of-term, told, table-fault, said-in, cubes-with}
+use Rattle.tables.specs.Tables.{record-of, table-reading}
+use Rattle.rows.specs.declared.Scan.{Scan}
+use Rattle.rows.specs.Known.{Gathered}
+use Rattle.tables.specs.Ready.{Ready, record-reading}
+use Rattle.rows.proofs.Knows.{own-length}
 use Rattle.tables.proofs.Meaning.{term-right, terms-right, cubes-even}
 
 -- ---- a fault in a list that starts further on lies further on

@@ -1,10 +1,7 @@
-pub mod First
-pub mod Knows
-pub mod Scanned
 pub mod Meaning
 pub mod Delivery
+pub mod Codes
 pub mod RoundTrip
 pub mod Export
-pub mod Codes
 pub mod Places
 pub mod Settled

@@ -29,8 +29,9 @@ use Rattle.writer.proofs.RoundTrip.{on-again, off-again}
 use Rattle.words.specs.Words.{value}
 use Rattle.terms.specs.Terms.{Says, nothing, keyword, term, end, malformed, unknown, dash, on-char, off-char, dot-i, dot-o, is-input, output, well-formed, inputs-with, cube-of}
 use Rattle.terms.proofs.Cubes.{input-cases}
-use Rattle.tables.specs.Tables.{of-keyword, of-term, is-of, stands, told, complete, line-code, table-fault, said-in, cubes-with, record-of}
-use Rattle.tables.proofs.First.{line-at, Whole, whole-if, whole-front}
+use Rattle.rows.specs.Rows.{of-keyword, of-term, is-of, stands, told, complete, line-code, table-fault, said-in, cubes-with}
+use Rattle.tables.specs.Tables.{record-of}
+use Rattle.rows.proofs.First.{line-at, Whole, whole-if, whole-front}
 
 -- ---- a term against a pattern
 

@@ -18,8 +18,9 @@ use Rattle.records.proofs.Frame.{record-sound}
 use Rattle.records.proofs.Places.{record-place}
 use Rattle.words.specs.Words.{onto, pieces, lines, is-lf}
 use Rattle.terms.specs.Terms.{says}
-use Rattle.tables.specs.Tables.{table-fault, record-of, table-reading, table-of, table-writing}
-use Rattle.tables.proofs.First.{walk}
+use Rattle.rows.specs.Rows.{table-fault}
+use Rattle.tables.specs.Tables.{record-of, table-reading, table-of, table-writing}
+use Rattle.rows.proofs.First.{walk}
 use Rattle.tables.proofs.Export.{table-long}
 
 -- ---- the writer

@@ -26,7 +26,8 @@ use Rattle.words.proofs.Decimals.{decimal-reads, decimal-is-number}
 use Rattle.terms.specs.Terms.{Says, keyword, term, end, says, says-by, keyword-line, dot-i, dot-o, one, dot-type, fr, dot-p, dot-e, on-char, off-char, is-output, characters}
 use Rattle.terms.proofs.Cubes.{on-inputs, off-inputs, characters-right}
 use Rattle.terms.proofs.Written.{is-word, number-word, line-says, terms-said, term-lines-say}
-use Rattle.tables.specs.Tables.{of-keyword, of-term, is-end, told, terms, line-code, first-faulty, table-fault, up-to-end, said-in, cubes-with, record-of, table-head, table-of, table-reading}
+use Rattle.rows.specs.Rows.{of-keyword, of-term, is-end, told, terms, line-code, first-faulty, table-fault, up-to-end, said-in, cubes-with}
+use Rattle.tables.specs.Tables.{record-of, table-head, table-of, table-reading}
 
 -- ---- the terms of a list of cubes, with whatever follows
 

@@ -1,2 +1,2 @@
 pub mod Tables
-pub mod Known
+pub mod Ready

@@ -12,7 +12,7 @@ use Rattle.records.specs.Records.{clash-code}
 use Rattle.records.proofs.Places.{first-place}
 use Rattle.writer.specs.Writing.{record-bytes}
 use Rattle.writer.proofs.Laws.{record-long}
-use Rattle.tables.specs.Known.{record-reading}
+use Rattle.tables.specs.Ready.{record-reading}
 use Rattle.tables.proofs.Delivery.{clash-refused, clash-none}
 use Rattle.tables.proofs.deliver.Statement.{statement}
 use Rattle.tables.proofs.deliver.Tie as tie

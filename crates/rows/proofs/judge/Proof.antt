@@ -1,9 +1,9 @@
 -- Each line by its own test; the line that is matched on is the one that was given.
 use mathlib.Core.Path.{sym, ap, _∙_}
 use borrow.Author.Needs.{needs}
-use Rattle.tables.specs.Known.{code-by}
-use Rattle.tables.proofs.judge.Statement.{statement}
-use Rattle.tables.proofs.judge.Tie as tie
+use Rattle.rows.specs.Known.{code-by}
+use Rattle.rows.proofs.judge.Statement.{statement}
+use Rattle.rows.proofs.judge.Tie as tie
 
 pub judge-spec : {M : Type 1} → statement M
 judge-spec =

@@ -18,11 +18,11 @@ use Rattle.terms.specs.declared.Cube.{Cube}
 use Rattle.terms.specs.declared.Line.{Line}
 use Rattle.terms.specs.Terms.{Says, nothing, keyword, term, end, malformed, unknown, says, says-by, output, inputs-with, dot-i, dot-o, on-char, off-char}
 use Rattle.terms.specs.Seen.{cube, no-cube, cube-seen, seen}
-use Rattle.tables.specs.declared.Known.{Known}
-use Rattle.tables.specs.declared.Scan.{Scan}
-use Rattle.tables.specs.Tables.{of-term, is-end, stands, complete, miscounted, told, line-code, first-faulty, table-fault, up-to-end, said-in, cube-with, cubes-with}
-use Rattle.tables.specs.Known.{nothing-known, code-by, more-if, learnt, ends-with, cube-in, kept, Gathered}
-use Rattle.tables.proofs.Knows.{Knows, says-proper, term-passed, term-kept, by-keyword, cube-next, code-known, learnt-known, ends-seen}
+use Rattle.rows.specs.declared.Known.{Known}
+use Rattle.rows.specs.declared.Scan.{Scan}
+use Rattle.rows.specs.Rows.{of-term, is-end, stands, complete, miscounted, told, line-code, first-faulty, table-fault, up-to-end, said-in, cube-with, cubes-with}
+use Rattle.rows.specs.Known.{nothing-known, code-by, more-if, learnt, ends-with, cube-in, kept, Gathered}
+use Rattle.rows.proofs.Knows.{Knows, says-proper, term-passed, term-kept, by-keyword, cube-next, code-known, learnt-known, ends-seen}
 
 -- ---- the cubes of one list, in their buffer
 

@@ -2,8 +2,8 @@
 use mathlib.Core.Path.{refl}
 use native.Mathlib.Omega.{arith}
 use borrow.Author.Tests.{lt-ltb, le-ltb, not-true, not-false}
-use Rattle.tables.proofs.complete.Statement.{statement}
-use Rattle.tables.proofs.complete.Tie as tie
+use Rattle.rows.proofs.complete.Statement.{statement}
+use Rattle.rows.proofs.complete.Tie as tie
 
 pub complete-spec : {M : Type 1} → statement M
 complete-spec =

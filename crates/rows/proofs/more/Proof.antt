@@ -2,8 +2,8 @@
 use native.Mathlib.Omega.{arith}
 use borrow.Author.Needs.{needs}
 use borrow.Author.Tests.{eq-eqb, ne-eqb}
-use Rattle.tables.proofs.more.Statement.{statement}
-use Rattle.tables.proofs.more.Tie as tie
+use Rattle.rows.proofs.more.Statement.{statement}
+use Rattle.rows.proofs.more.Tie as tie
 
 pub more-spec : {M : Type 1} → statement M
 more-spec =

@@ -18,10 +18,10 @@ use Rattle.terms.specs.declared.Line.{Line}
 use Rattle.terms.specs.declared.Line.the-variants.{Inputs, Output, Fr, Terms}
 use Rattle.terms.specs.Terms.{Says, nothing, keyword, term, end, malformed, unknown, dot, dot-e, alone, second, takes, is-keyword, keyword-line, says-by, is-input, inputs-with, well-formed, output, cube-of, dot-i, dot-o, dot-type, dot-p, on-char, off-char}
 use Rattle.terms.specs.Seen.{cube, cube-seen, seen}
-use Rattle.tables.specs.declared.Known.{Known}
-use Rattle.tables.specs.Tables.{of-keyword, of-term, is-end, is-of, stands, told, complete, terms, line-code, cube-with, cubes-with}
-use Rattle.tables.specs.Known.{all-known, code-by, more-if, learnt, ends-with}
-use Rattle.tables.proofs.First.{is-term}
+use Rattle.rows.specs.declared.Known.{Known}
+use Rattle.rows.specs.Rows.{of-keyword, of-term, is-end, is-of, stands, told, complete, terms, line-code, cube-with, cubes-with}
+use Rattle.rows.specs.Known.{all-known, code-by, more-if, learnt, ends-with}
+use Rattle.rows.proofs.First.{is-term}
 
 -- ---- a keyword is one of four
 

@@ -6,8 +6,8 @@ use native.Mathlib.Omega.{arith}
 use borrow.Author.Needs.{needs}
 use borrow.Author.Tests.{eq-eqb, ne-eqb, lt-ltb, le-ltb}
 use lib.ListN.{set, length-set}
-use Rattle.tables.proofs.keep.Statement.{statement}
-use Rattle.tables.proofs.keep.Tie as tie
+use Rattle.rows.proofs.keep.Statement.{statement}
+use Rattle.rows.proofs.keep.Tie as tie
 
 pub keep-spec : {M : Type 1} → statement M
 keep-spec =

@@ -2,8 +2,8 @@
 use mathlib.Core.Path.{sym, _∙_}
 use borrow.Author.Needs.{needs}
 use borrow.Author.Tests.{eq-eqb, ne-eqb, not-true, not-false}
-use Rattle.tables.proofs.term_fault.Statement.{statement}
-use Rattle.tables.proofs.term_fault.Tie as tie
+use Rattle.rows.proofs.term_fault.Statement.{statement}
+use Rattle.rows.proofs.term_fault.Tie as tie
 
 pub term-fault-spec : {M : Type 1} → statement M
 term-fault-spec =

@@ -2,9 +2,9 @@
 use Prim.Native.Nat.{_+_}
 use mathlib.Core.Path.{sym, ap, _∙_}
 use borrow.Author.Needs.{needs}
-use Rattle.tables.specs.Known.{known, learnt}
-use Rattle.tables.proofs.learn.Statement.{statement}
-use Rattle.tables.proofs.learn.Tie as tie
+use Rattle.rows.specs.Known.{known, learnt}
+use Rattle.rows.proofs.learn.Statement.{statement}
+use Rattle.rows.proofs.learn.Tie as tie
 
 pub learn-spec : {M : Type 1} → statement M
 learn-spec =

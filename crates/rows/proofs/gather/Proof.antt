@@ -7,11 +7,11 @@ use borrow.Author.Tests.{eqb-false}
 use lib.ListN.{length}
 use Rattle.answers.specs.declared.Fault.{Fault}
 use Rattle.terms.specs.Terms.{on-char, off-char}
-use Rattle.tables.specs.Known.{code-by, ends-with}
-use Rattle.tables.proofs.Knows.{terms-most, cubes-most}
-use Rattle.tables.proofs.Scanned.{Scanned, scanned-starts, gathered-stopped, scanned-last, bare-within, last-within, turn-fault, turn-end, turn-again}
-use Rattle.tables.proofs.gather.Statement.{statement}
-use Rattle.tables.proofs.gather.Tie as tie
+use Rattle.rows.specs.Known.{code-by, ends-with}
+use Rattle.rows.proofs.Knows.{terms-most, cubes-most}
+use Rattle.rows.proofs.Scanned.{Scanned, scanned-starts, gathered-stopped, scanned-last, bare-within, last-within, turn-fault, turn-end, turn-again}
+use Rattle.rows.proofs.gather.Statement.{statement}
+use Rattle.rows.proofs.gather.Tie as tie
 
 abbrev Inv-loop : tie.InvT-loop
 Inv-loop text on₀ off₀ known₀ at₀ row₀ on off known at row = Scanned text at row known on off

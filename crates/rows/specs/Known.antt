@@ -6,17 +6,14 @@ use mathlib.Core.List.{List, [], _∷_}
 use lib.Dec.{leb, ltb, eqb}
 use lib.ListN.{length, take}
 use lib.Seq.{sets}
-use Rattle.answers.specs.declared.Answer.{Answer}
-use Rattle.answers.specs.Answers.{by, fits}
-use Rattle.records.specs.Records.{record-fault, first-fault, cube-code}
 use Rattle.terms.specs.declared.Cube.{Cube}
 use Rattle.terms.specs.declared.Line.{Line}
 use Rattle.terms.specs.declared.Line.the-variants.{Nothing, Inputs, Output, Fr, Terms, Term, End, Malformed, Unknown}
 use Rattle.terms.specs.Terms.{dot-i, on-char, off-char}
 use Rattle.terms.specs.Seen.{no-cube}
-use Rattle.tables.specs.declared.Known.{Known}
-use Rattle.tables.specs.declared.Scan.{Scan}
-use Rattle.tables.specs.Tables.{told, table-fault, said-in, cubes-with}
+use Rattle.rows.specs.declared.Known.{Known}
+use Rattle.rows.specs.declared.Scan.{Scan}
+use Rattle.rows.specs.Rows.{told, table-fault, said-in, cubes-with}
 
 abbrev pub known : ℕ → Bool → Bool → Bool → ℕ → ℕ → ℕ → ℕ → Known
 known n one fr counted told terms on off = record { n = n; one = one; fr = fr; counted = counted; told = told; terms = terms; on = on; off = off }
@@ -104,18 +101,3 @@ pub record Gathered (text on off : List ℕ) (r : Scan) : Type 0 where
   pub off-count : r .fault .code ≡ 0 → length (cubes-with off-char (said-in text)) ≡ 2 * r .off
   pub on-stored : r .fault .code ≡ 0 → r .on ≤ 64 → take (2 * r .on) on ≡ cubes-with on-char (said-in text)
   pub off-stored : r .fault .code ≡ 0 → r .off ≤ 64 → take (2 * r .off) off ≡ cubes-with off-char (said-in text)
-
--- two lists of cubes that a record can be made of, none with a fault of its own
-pub record Ready (n : ℕ) (on off : List ℕ) : Type 0 where
-  pub least : 1 ≤ n
-  pub most : n ≤ 8
-  pub on-even : length on % 2 ≡ 0
-  pub off-even : length off % 2 ≡ 0
-  pub on-few : length on ≤ 128
-  pub off-few : length off ≤ 128
-  pub on-cubes : first-fault (cube-code n) on 0 .code ≡ 0
-  pub off-cubes : first-fault (cube-code n) off 0 .code ≡ 0
-
--- 4 and 7 at their places in the record, then 18
-abbrev pub record-reading : List ℕ → ℕ → Answer
-record-reading s room = by 1 (record-fault s) (fits 3 room (length s))

@@ -1,7 +1,7 @@
 -- Told before, or outside 1 to 8, or right.
 use borrow.Author.Tests.{lt-ltb, le-ltb, le-leb, lt-leb}
-use Rattle.tables.proofs.inputs_fault.Statement.{statement}
-use Rattle.tables.proofs.inputs_fault.Tie as tie
+use Rattle.rows.proofs.inputs_fault.Statement.{statement}
+use Rattle.rows.proofs.inputs_fault.Tie as tie
 
 pub inputs-fault-spec : {M : Type 1} → statement M
 inputs-fault-spec =

@@ -19,7 +19,7 @@ use Rattle.bits.proofs.Below.{below-suc}
 use Rattle.rules.specs.Lists.{same}
 use Rattle.words.specs.Words.{lines, value}
 use Rattle.terms.specs.Terms.{Says, nothing, keyword, term, end, malformed, unknown, says, well-formed, dot-i}
-use Rattle.tables.specs.Tables.{of-keyword, of-term, is-end, stands, told, complete, miscounted, line-code, first-faulty, table-fault, up-to-end}
+use Rattle.rows.specs.Rows.{of-keyword, of-term, is-end, stands, told, complete, miscounted, line-code, first-faulty, table-fault, up-to-end}
 
 -- ---- a line by its number from 0, its code after the lines before it, and whether the reading goes on behind it
 

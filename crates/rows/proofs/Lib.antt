@@ -1,0 +1,4 @@
+pub mod First
+pub mod Knows
+pub mod Scanned
+pub mod Settled
