@@ -5,7 +5,6 @@ use crate::functions::DISJ;
 use crate::functions::ODD;
 use crate::functions::OPEN;
 use crate::functions::WIRE;
-use crate::show;
 
 // Two trees of four closings each.
 const CONJ_ODD: [u8; 29] =

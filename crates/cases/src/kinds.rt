@@ -1,5 +1,4 @@
 // One function for each kind of case: it runs a public call and prints the case's line.
-use crate::show;
 
 // The reader: the answer, then n, a and b.
 pub fn reads(name: &[u8], s: &[u8]) {

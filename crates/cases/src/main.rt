@@ -7,7 +7,6 @@ mod checks;
 mod functions;
 mod kinds;
 mod matches;
-mod show;
 mod wirings;
 
 use functions::CONJ;

@@ -11,7 +11,6 @@ use crate::functions::G_3_2;
 use crate::functions::ODD;
 use crate::functions::OPEN;
 use crate::functions::WIRE;
-use crate::show;
 
 // The matcher's answer, then the buffer's bytes afterwards, and what the checker says of a claim among them.
 fn finds(name: &[u8], f: &[u8], g: &[u8], out: &mut [u8]) {

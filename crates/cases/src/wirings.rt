@@ -1,6 +1,5 @@
 // Single wirings of two functions of three inputs, with q = 0: whether one agrees, or its first dead pair.
 ghost use Rattle.partial.specs.Partial.{Formed};
-use crate::show;
 use partial::Wiring;
 
 // Shows the choices made.

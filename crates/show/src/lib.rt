@@ -1,4 +1,4 @@
-// What a line is made of: text, decimal numbers, bytes in capital hex.
+// What a line of a case is made of: text, decimal numbers, bytes in capital hex.
 use answers::Answer;
 
 pub fn text(bytes: &[u8]) {

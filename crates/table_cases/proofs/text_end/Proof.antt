@@ -1,27 +1,25 @@
--- The loop's index stays within the bytes.
+-- The index stays between the start and the end.
 use Prim.Native.Nat.{_≤_, _-_}
 use borrow.Author.Needs.{needs}
 use lib.ListN.{length}
-use Rattle.cases.proofs.show.hex.Statement.{statement}
-use Rattle.cases.proofs.show.hex.Tie as tie
+use Rattle.table_cases.proofs.text_end.Statement.{statement}
+use Rattle.table_cases.proofs.text_end.Tie as tie
 
 abbrev Inv-loop : tie.InvT-loop
-Inv-loop bytes i₀ t3 i = i ≤ length bytes
+Inv-loop input at i₀ i = (at ≤ i) × (i ≤ length input)
 
 abbrev μ-loop : tie.MeasureT-loop
-μ-loop bytes i₀ t3 i = length bytes - i
+μ-loop input at i₀ i = length input - i
 
-pub hex-spec : {M : Type 1} → statement M
-hex-spec =
+pub text-end-spec : {M : Type 1} → statement M
+text-end-spec =
     tie.close
     (tie.spec
     Inv-loop
     μ-loop
     (λ c. search needs)
     (λ c. search needs)
-    (λ c κs. search needs)
     (λ c. search needs)
-    (λ c κs. search needs)
     (λ c. search needs)
     (λ c. search needs)
     (λ c. search needs)
