@@ -2,3 +2,4 @@ pub mod Scans
 pub mod Pieces
 pub mod Decimals
 pub mod Settled
+pub mod Marks

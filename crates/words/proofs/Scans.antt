@@ -1,14 +1,15 @@
 -- Scans of a text and of words: what remains from the place reached on decides.
-use Prim.Native.Nat.{ℕ, suc, _+_, _*_, _-_, _≤_, _<_, min}
+use Prim.Native.Nat.{ℕ, zero, suc, _+_, _*_, _-_, _≤_, _<_, min}
 use mathlib.Core.Path.{_≡_, refl, sym, ap, ap₂, _∙_}
 use mathlib.Core.Bool.{Bool, true, false, cond, _&&_}
 use mathlib.Core.List.{List, [], _∷_}
+use native.Mathlib.Nat.{le-of-suc-le-suc, not-suc-le-zero}
 use native.Mathlib.Numerals.{add-one}
 use native.Mathlib.Omega.{arith}
 use borrow.Author.Tests.{eq-eqb, ne-eqb, lt-ltb}
 use lib.Dec.{eqb}
-use lib.ListN.{length, getD, drop, drop-of-length-le}
-use lib.Seq.{drop-cons}
+use lib.ListN.{length, getD, take, drop, length-drop, drop-of-length-le}
+use lib.Seq.{drop-cons, drop-drop}
 use Rattle.bits.proofs.Tests.{not-passed}
 use Rattle.rules.specs.Lists.{passed-over, each-in, same}
 use Rattle.rules.proofs.Lists.{same-is}
@@ -44,6 +45,66 @@ module _ (p : ℕ → Bool) (s : List ℕ) (at : ℕ) where
     pub scan-ends : length s ≤ i → i ≡ at + passed-over p (drop at s)
     unfolding passed-over
     scan-ends h = omega (arith, w .rest, ap (passed-over p) (drop-of-length-le s h))
+
+-- ---- the same scan, several characters at a time
+
+-- what the first n characters decide: where one of them passes, and where none does
+module _ (p : ℕ → Bool) where
+  front-found : (n : ℕ) (l : List ℕ) → n ≤ length l → passed-over p (take n l) < n → passed-over p (take n l) ≡ passed-over p l
+  unfolding passed-over
+  front-found zero l h f = absurd (not-suc-le-zero f)
+  front-found (suc n) [] h f = absurd (not-suc-le-zero h)
+  front-found (suc n) (c ∷ l) h f = go (p c) f (front-found n l (le-of-suc-le-suc h))
+    where
+      go : (t : Bool) → cond t 0 (suc (passed-over p (take n l))) < suc n → (passed-over p (take n l) < n → passed-over p (take n l) ≡ passed-over p l)
+          → cond t 0 (suc (passed-over p (take n l))) ≡ cond t 0 (suc (passed-over p l))
+      go true f later = refl
+      go false f later = ap suc (later (le-of-suc-le-suc f))
+
+  front-passed : (n : ℕ) (l : List ℕ) → n ≤ length l → n ≤ passed-over p (take n l) → passed-over p l ≡ n + passed-over p (drop n l)
+  unfolding passed-over
+  front-passed zero l h f = omega arith
+  front-passed (suc n) [] h f = absurd (not-suc-le-zero h)
+  front-passed (suc n) (c ∷ l) h f = go (p c) f (front-passed n l (le-of-suc-le-suc h))
+    where
+      go : (t : Bool) → suc n ≤ cond t 0 (suc (passed-over p (take n l))) → (n ≤ passed-over p (take n l) → passed-over p l ≡ n + passed-over p (drop n l))
+          → cond t 0 (suc (passed-over p l)) ≡ suc n + passed-over p (drop n l)
+      go true f later = absurd (not-suc-le-zero f)
+      go false f later = omega (arith, later (le-of-suc-le-suc f))
+
+  -- l is the n characters from `i` on, and k of them come before the first that passes
+  module _
+      (s : List ℕ) (at i : ℕ) (w : Scan p s at i) (n k : ℕ) (long : n ≤ length s - i)
+      (l : List ℕ) (front : l ≡ take n (drop i s)) (over : k ≡ passed-over p l) where
+    enough : n ≤ length (drop i s)
+    enough = omega (arith, length-drop i s)
+
+    is : k ≡ passed-over p (take n (drop i s))
+    is = over ∙ ap (passed-over p) front
+
+    pub scan-found-in : k < n → i + k ≡ at + passed-over p (drop at s)
+    scan-found-in h = omega (arith, w .rest, is, front-found n (drop i s) enough (omega (arith, is)))
+
+    pub scan-goes-by : n ≤ k → Scan p s at (i + n)
+    scan-goes-by h =
+        let more = front-passed n (drop i s) enough (omega (arith, is)) ∙ ap (λ (l : List ℕ). n + passed-over p l) (drop-drop n i s) in
+        record { within = omega (arith, w .within); rest = omega (arith, w .rest, more) }
+
+-- the eight characters from a place on, one by one
+pub eight-here : (s : List ℕ) (i : ℕ) → i + 8 ≤ length s → (l : List ℕ)
+    → l ≡ getD s i 0 ∷ getD s (i + 1) 0 ∷ getD s (i + 2) 0 ∷ getD s (i + 3) 0 ∷ getD s (i + 4) 0 ∷ getD s (i + 5) 0 ∷ getD s (i + 6) 0 ∷ getD s (i + 7) 0 ∷ []
+    → l ≡ take 8 (drop i s)
+eight-here s i h l each =
+    each
+    ∙ sym (ap (take 8) (from-here s i (omega arith)) ∙ on i (next 1 6 (omega arith) ∙ on (i + 1) (next 2 5 (omega arith) ∙ on (i + 2) (next 3 4 (omega arith) ∙ on (i + 3) (next 4 3 (omega arith) ∙ on (i + 4) (next 5 2 (omega arith) ∙ on (i + 5) (next 6 1 (omega arith) ∙ on (i + 6) (next 7 0 (omega arith)))))))))
+  where
+    on : (j : ℕ) {l m : List ℕ} → l ≡ m → getD s j 0 ∷ l ≡ getD s j 0 ∷ m
+    on j e = ap (λ (l : List ℕ). getD s j 0 ∷ l) e
+
+    next : (k n : ℕ) → i + k < length s → take (suc n) (drop (i + k) s) ≡ getD s (i + k) 0 ∷ take n (drop (i + suc k) s)
+    next k n l =
+        let same : suc (i + k) ≡ i + suc k = omega arith in
+        ap (take (suc n)) (drop-cons s (i + k) 0 l) ∙ ap (λ (j : ℕ). getD s (i + k) 0 ∷ take n (drop j s)) same
 
 -- ---- two words compared
 
