@@ -12,8 +12,8 @@ use Rattle.answers.specs.declared.Fault.{Fault}
 use Rattle.answers.specs.Answers.{fault, sound}
 use Rattle.bits.proofs.Tests.{both-left}
 use Rattle.rules.specs.Lists.{some-in, count-in, passed-over}
-use Rattle.words.specs.Words.{lines, words, pieces, is-lf, is-hash}
-use Rattle.words.proofs.Pieces.{passed-over-within, pieces-step, bare-line, line-beyond}
+use Rattle.words.specs.Words.{before, lines, words, pieces, is-lf, is-hash}
+use Rattle.words.proofs.Pieces.{passed-over-within, over-from, pieces-step, bare-line, line-beyond}
 use Rattle.terms.specs.declared.Cube.{Cube}
 use Rattle.terms.specs.declared.Line.{Line}
 use Rattle.terms.specs.Terms.{Says, nothing, keyword, term, end, malformed, unknown, says, says-by, output, inputs-with, dot-i, dot-o, on-char, off-char}
@@ -120,25 +120,32 @@ off-next k unknown = refl
 
 -- ---- a line of the text
 
-module _ (text : List ℕ) (at : ℕ) (h : at < length text) (bare last : ℕ) (is : bare ≡ at + passed-over (λ c. is-lf c || is-hash c) (drop at text))
-    (ends : last ≡ bare + passed-over is-lf (drop bare text)) where
-  line-ends : last ≡ at + passed-over is-lf (drop at text)
-  line-ends = omega (arith, is, ends, line-beyond (drop at text), ap (passed-over is-lf) (drop-drop (passed-over (λ c. is-lf c || is-hash c) (drop at text)) at text ∙ ap (λ (k : ℕ). drop k text) (sym is)))
+-- a line goes on up to LF, and its comment apart up to LF or #
+abbrev over : ℕ → Bool
+over c = is-lf c || is-hash c
 
-  pub bare-within : (at ≤ bare) × (bare ≤ length text)
-  bare-within = (omega (arith, is), omega (arith, is, passed-over-within (λ c. is-lf c || is-hash c) (drop at text), length-drop at text))
+-- `to` is a place in it, from which on its end was looked for
+module _ (text : List ℕ) (at : ℕ) (h : at < length text) (to last : ℕ) (low : at ≤ to) (high : to ≤ at + passed-over over (drop at text))
+    (ends : last ≡ to + passed-over is-lf (drop to text)) where
+  line-ends : last ≡ at + passed-over is-lf (drop at text)
+  line-ends =
+      let back : at + (to - at) ≡ to = omega (arith, low) in
+      let far = over-from is-lf (to - at) (drop at text) (omega (arith, high, line-beyond (drop at text))) in
+      omega (arith, low, ends, far, ap (passed-over is-lf) (drop-drop (to - at) at text ∙ ap (λ (k : ℕ). drop k text) back))
+
+  pub to-within : to ≤ length text
+  to-within = omega (arith, high, h, passed-over-within over (drop at text), length-drop at text)
 
   pub last-within : (at ≤ last) × (last ≤ length text)
   last-within = (omega (arith, line-ends), omega (arith, line-ends, passed-over-within is-lf (drop at text), length-drop at text))
 
-  pub line-here : map says (lines (drop at text)) ≡ says-by (words (take (bare - at) (drop at text))) ∷ map says (lines (drop (last + 1) text))
+  pub line-here : map says (lines (drop at text)) ≡ says-by (words (before over (drop at text))) ∷ map says (lines (drop (last + 1) text))
   line-here =
       let s = drop at text in
       let k = passed-over is-lf s in
       let far : at + suc k ≡ last + 1 = omega (arith, line-ends) in
-      let long : passed-over (λ c. is-lf c || is-hash c) s ≡ bare - at = omega (arith, is) in
       ap (map says) (pieces-step is-lf s (omega (arith, h, length-drop at text)))
-      ∙ ap₂ (λ (l : List ℕ) (rest : List ℕ). says-by (words l) ∷ map says (lines rest)) (bare-line s ∙ ap (λ (m : ℕ). take m s) long) (drop-drop (suc k) at text ∙ ap (λ (m : ℕ). drop m text) far)
+      ∙ ap₂ (λ (l : List ℕ) (rest : List ℕ). says-by (words l) ∷ map says (lines rest)) (bare-line s) (drop-drop (suc k) at text ∙ ap (λ (m : ℕ). drop m text) far)
 
 -- ---- the walk
 
@@ -238,23 +245,23 @@ end-complete said malformed e z = absurd (false≢true e)
 end-complete said unknown e z = absurd (false≢true e)
 
 -- a turn of the walk, with what the calls gave
-module _ (text : List ℕ) (at row : ℕ) (k : Known) (on off : List ℕ) (w : Scanned text at row k on off) (h : at < length text) (small : length text < 2 ^ 63) (bare : ℕ)
-    (is : bare ≡ at + passed-over (λ c. is-lf c || is-hash c) (drop at text)) where
+module _ (text : List ℕ) (at row : ℕ) (k : Known) (on off : List ℕ) (w : Scanned text at row k on off) (h : at < length text) (small : length text < 2 ^ 63) (to : ℕ)
+    (low : at ≤ to) (high : to ≤ at + passed-over over (drop at text)) where
   -- what the line says
   abbrev this : Says
-  this = says-by (words (take (bare - at) (drop at text)))
+  this = says-by (words (before over (drop at text)))
 
   abbrev after : ℕ
-  after = bare + passed-over is-lf (drop bare text)
+  after = to + passed-over is-lf (drop to text)
 
   abbrev rest : List Says
   rest = map says (lines (drop (after + 1) text))
 
   here : map says (lines (drop at text)) ≡ this ∷ rest
-  here = line-here text at h bare after is refl
+  here = line-here text at h to after low high refl
 
   judged : code-by k (seen this) ≡ line-code (w .said) this
-  judged = code-known k (w .said) (w .knows) this (says-proper (words (take (bare - at) (drop at text)))) (omega (arith, w .fewer, h, small))
+  judged = code-known k (w .said) (w .knows) this (says-proper (words (before over (drop at text)))) (omega (arith, w .fewer, h, small))
 
   pub turn-fault : (code : ℕ) → code ≡ code-by k (seen this) → (code ≡ 0 → ⊥) → (r : Scan) → r .fault ≡ fault code row → Gathered text on off r
   turn-fault code e bad r stopped =
@@ -292,11 +299,11 @@ module _ (text : List ℕ) (at row : ℕ) (k : Known) (on off : List ℕ) (w : S
         record {
           said = w .said ++ (this ∷ []);
           rows = omega (arith, w .rows, length-append (w .said) (this ∷ []));
-          reach = omega (arith, last-within text at h bare after is refl .1);
-          fewer = omega (arith, w .fewer, last-within text at h bare after is refl .0, length-append (w .said) (this ∷ []));
+          reach = omega (arith, last-within text at h to after low high refl .1);
+          fewer = omega (arith, w .fewer, last-within text at h to after low high refl .0, length-append (w .said) (this ∷ []));
           faults = next .0;
           front = next .1;
-          knows = learnt-known k (w .said) (w .knows) this (says-proper (words (take (bare - at) (drop at text)))) sound-line;
+          knows = learnt-known k (w .said) (w .knows) this (says-proper (words (before over (drop at text)))) sound-line;
           on-kept = subst (λ (count : ℕ). Kept on-char (w .said ++ (this ∷ [])) count (kept on-char (cube-in (seen this)) (k .on) on)) (sym (on-next k this)) (kept-next on-char refl (w .said) (k .on) on (w .on-kept) this few sound-line);
           off-kept = subst (λ (count : ℕ). Kept off-char (w .said ++ (this ∷ [])) count (kept off-char (cube-in (seen this)) (k .off) off)) (sym (off-next k this)) (kept-next off-char refl (w .said) (k .off) off (w .off-kept) this few sound-line);
         }

@@ -244,8 +244,8 @@ pub fn gather(text: &[u8], on: &mut [u8], off: &mut [u8]) -> Scan
     let mut at = 0;
     let mut row = 1;
     while at < text.len() {
-        let bare = words::bare_end(text, at);
-        let line = terms::says(&text[at..bare]);
+        let said = terms::says(text, at);
+        let line = said.line;
         let code = judge(known, line);
         if code != 0 {
             return stopped(code, row);
@@ -262,7 +262,7 @@ pub fn gather(text: &[u8], on: &mut [u8], off: &mut [u8]) -> Scan
         keep(on, known.on, term, b'1');
         keep(off, known.off, term, b'0');
         known = learn(known, line);
-        at = words::line_end(text, bare) + 1;
+        at = words::line_end(text, said.to) + 1;
         row += 1;
     }
     stopped(21, row)

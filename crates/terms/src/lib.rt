@@ -1,14 +1,14 @@
 // One line of a table: what it says, and the lines of terms.
 ghost use mathlib.Core.Path.{_≡_};
-ghost use mathlib.Core.Bool.{cond, _&&_};
+ghost use mathlib.Core.Bool.{cond, _&&_, _||_};
 ghost use mathlib.Core.List.{_∷_, []};
 ghost use Rattle.bits.specs.Bits.{has};
 ghost use Prim.Native.Nat.{_+_, _≤_, _<_};
 ghost use lib.Dec.{ltb, eqb};
 ghost use lib.ListN.{length, drop};
 ghost use lib.Seq.{sets};
-ghost use Rattle.rules.specs.Lists.{each-in, same};
-ghost use Rattle.words.specs.Words.{words, line};
+ghost use Rattle.rules.specs.Lists.{each-in, passed-over, same};
+ghost use Rattle.words.specs.Words.{words, before, is-lf, is-hash, line};
 ghost use Rattle.terms.specs.Terms.{is-input, inputs-with, on-char, off-char, keyword-line, says-by, dash, characters, term-lines};
 ghost use Rattle.terms.specs.Seen.{cube as cube-as, no-cube, cube-seen, seen, numbered, after};
 use words::Counted;
@@ -179,33 +179,66 @@ fn keyword(name: &[u8], v: &[u8], alone: bool) -> Line
     Line::Unknown
 }
 
-// Whether the word from `start` to `end` is there, and no other behind it.
-fn last(line: &[u8], start: usize, end: usize) -> bool
-    requires { ⌜ end ≤ length (now line) ⌝ }
-    ensures { λ r. ⌜ r ≡ ltb start end && eqb (length (words (drop end (now (line .entry))))) 0 ⌝ }
+// Whether nothing more of a line comes at a place: the text ends there, the line, or what stands before its comment.
+fn ended(text: &[u8], at: usize) -> bool
+    requires { ⌜ at ≤ length (now text) ⌝ }
+    ensures { λ r. ⌜ r ≡ eqb (passed-over (λ c. is-lf c || is-hash c) (drop at (now (text .entry)))) 0 ⌝ }
+{
+    if text.len() <= at {
+        return true;
+    }
+    if text[at] == b'\n' {
+        return true;
+    }
+    text[at] == b'#'
+}
+
+// Whether the word from `start` to `end` is there, and no other behind it: the next would start at `next`.
+fn last(text: &[u8], start: usize, end: usize, next: usize) -> bool
+    requires { ⌜ next ≤ length (now text) ⌝ }
+    ensures { λ r. ⌜ r ≡ ltb start end && eqb (passed-over (λ c. is-lf c || is-hash c) (drop next (now (text .entry)))) 0 ⌝ }
 {
     if end <= start {
         return false;
     }
-    words::word_start(line, end) == line.len()
+    ended(text, next)
 }
 
-// What a line without its comment says.
-pub fn says(line: &[u8]) -> Line
-    ensures { λ r. ⌜ r ≡ seen (says-by (words (now (line .entry)))) ⌝ }
+// What a line says, and a place in it up to which it was looked at, so that the way to its end need not begin again.
+pub struct Said {
+    pub line: Line,
+    pub to: usize,
+}
+
+// What the line from `at` on says, its comment apart: its words are looked for in the text itself, which is gone through once.
+pub fn says(text: &[u8], at: usize) -> Said
+    requires { ⌜ at ≤ length (now text) ⌝ }
+    ensures { λ r. ⌜ r .line ≡ seen (says-by (words (before (λ c. is-lf c || is-hash c) (drop at (now (text .entry)))))) ⌝ }
+    ensures { λ r. ⌜ at ≤ r .to ⌝ }
+    ensures { λ r. ⌜ r .to ≤ at + passed-over (λ c. is-lf c || is-hash c) (drop at (now (text .entry))) ⌝ }
 {
-    let from = words::word_start(line, 0);
-    if line.len() <= from {
-        return Line::Nothing;
+    let from = words::word_start(text, at);
+    if ended(text, from) {
+        return Said {
+            line: Line::Nothing,
+            to: from,
+        };
     }
-    let to = words::word_end(line, from);
-    let start = words::word_start(line, to);
-    let end = words::word_end(line, start);
-    let alone = last(line, start, end);
-    if line[from] == b'.' {
-        return keyword(&line[from..to], &line[start..end], alone);
+    let to = words::word_end(text, from);
+    let start = words::word_start(text, to);
+    let end = words::word_end(text, start);
+    let next = words::word_start(text, end);
+    let alone = last(text, start, end, next);
+    if text[from] == b'.' {
+        return Said {
+            line: keyword(&text[from..to], &text[start..end], alone),
+            to: next,
+        };
     }
-    Line::Term(term(&line[from..to], &line[start..end], alone))
+    Said {
+        line: Line::Term(term(&text[from..to], &text[start..end], alone)),
+        to: next,
+    }
 }
 
 // The character of input i in a cube.

@@ -2,7 +2,7 @@
 -- character follow.
 use Prim.Native.Nat.{ℕ, zero, suc, _+_, _≤_, _<_}
 use mathlib.Core.Path.{_≡_, refl, sym, ap, _∙_}
-use mathlib.Core.Bool.{Bool, true, false, cond, not, _||_}
+use mathlib.Core.Bool.{Bool, true, false, cond, not, _||_, false≢true}
 use mathlib.Core.List.{List, [], _∷_, _++_}
 use mathlib.Core.Logic.{⊎-elim}
 use native.Mathlib.Omega.{arith}
@@ -46,6 +46,30 @@ module _ (p : ℕ → Bool) where
   unfolding passed-over
   some-before [] h e = absurd (omega (arith, h))
   some-before (c ∷ s) h e = simp e (omega arith)
+
+  -- from a place on that is not beyond it, the first that passes is the same
+  pub over-from : (k : ℕ) (s : List ℕ) → k ≤ passed-over p s → passed-over p s ≡ k + passed-over p (drop k s)
+  unfolding passed-over
+  over-from zero s h = omega arith
+  over-from (suc k) [] h = absurd (omega (arith, h))
+  over-from (suc k) (c ∷ s) h = go (p c) h (over-from k s)
+    where
+      go : (b : Bool) → suc k ≤ cond b 0 (suc (passed-over p s)) → (k ≤ passed-over p s → passed-over p s ≡ k + passed-over p (drop k s))
+          → cond b 0 (suc (passed-over p s)) ≡ suc k + passed-over p (drop k s)
+      go true h later = absurd (omega (arith, h))
+      go false h later = omega (arith, later (omega (arith, h)))
+
+  -- and so is what stands before it, but for the part in front
+  pub before-from : (k : ℕ) (s : List ℕ) → k ≤ passed-over p s → drop k (before p s) ≡ before p (drop k s)
+  unfolding passed-over
+  before-from zero s h = refl
+  before-from (suc k) [] h = refl
+  before-from (suc k) (c ∷ s) h = go (p c) h (before-from k s)
+    where
+      go : (b : Bool) → suc k ≤ cond b 0 (suc (passed-over p s)) → (k ≤ passed-over p s → drop k (before p s) ≡ before p (drop k s))
+          → drop (suc k) (take (cond b 0 (suc (passed-over p s))) (c ∷ s)) ≡ before p (drop k s)
+      go true h later = absurd (omega (arith, h))
+      go false h later = later (omega (arith, h))
 
   -- ---- pieces
 
@@ -109,6 +133,31 @@ module _ (p q : ℕ → Bool) where
       go true b e later = simp e
       go false true e later = simp e (omega arith)
       go false false e later = omega (arith, later)
+
+  -- before the first that passes the other, a scan for the one ends where a scan for either would
+  pub over-before : (s : List ℕ) → passed-over p (before q s) ≡ passed-over either s
+  unfolding passed-over
+  over-before [] = refl
+  over-before (c ∷ s) = go (p c) (q c) refl (over-before s)
+    where
+      go : (a b : Bool) → p c ≡ a → passed-over p (before q s) ≡ passed-over either s → passed-over p (take (cond b 0 (suc (passed-over q s))) (c ∷ s)) ≡ cond (a || b) 0 (suc (passed-over either s))
+      go true true e later = refl
+      go false true e later = refl
+      go true false e later = simp e
+      go false false e later = simp e (ap suc later)
+
+  -- where that does pass the one, the scan for the one does not notice
+  pub over-implied : ((c : ℕ) → q c ≡ true → p c ≡ true) → (s : List ℕ) → passed-over p (before q s) ≡ passed-over p s
+  unfolding passed-over
+  over-implied so [] = refl
+  over-implied so (c ∷ s) = go (p c) (q c) refl (so c) (over-implied so s)
+    where
+      go : (a b : Bool) → p c ≡ a → (b ≡ true → p c ≡ true) → passed-over p (before q s) ≡ passed-over p s
+          → passed-over p (take (cond b 0 (suc (passed-over q s))) (c ∷ s)) ≡ cond a 0 (suc (passed-over p s))
+      go true true e so later = refl
+      go false true e so later = absurd (false≢true (sym e ∙ so refl))
+      go true false e so later = simp e
+      go false false e so later = simp e (ap suc later)
 
 -- the part of a line before its comment
 pub bare-line : (s : List ℕ) → bare (before is-lf s) ≡ before (λ c. is-lf c || is-hash c) s

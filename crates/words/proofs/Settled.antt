@@ -5,8 +5,6 @@ use mathlib.Core.List.{List}
 use Rattle.settled.specs.Settled.{Settled, SettledAs}
 use Rattle.words.proofs.line_end.Kinds as line-end-kinds
 use Rattle.words.proofs.line_end.Reads as line-end
-use Rattle.words.proofs.bare_end.Kinds as bare-end-kinds
-use Rattle.words.proofs.bare_end.Reads as bare-end
 use Rattle.words.proofs.word_start.Kinds as word-start-kinds
 use Rattle.words.proofs.word_start.Reads as word-start
 use Rattle.words.proofs.word_end.Kinds as word-end-kinds
@@ -22,9 +20,6 @@ use Rattle.words.proofs.put_number.Reads as put-number
 
 pub line-end-settled : Settled 1 line-end-kinds.ps line-end-kinds.r line-end.Post
 line-end-settled κs a r₁ r₂ s₁ s₂ p q = p ∙ sym q
-
-pub bare-end-settled : Settled 1 bare-end-kinds.ps bare-end-kinds.r bare-end.Post
-bare-end-settled κs a r₁ r₂ s₁ s₂ p q = p ∙ sym q
 
 pub word-start-settled : Settled 1 word-start-kinds.ps word-start-kinds.r word-start.Post
 word-start-settled κs a r₁ r₂ s₁ s₂ p q = p ∙ sym q

@@ -46,6 +46,10 @@ is-hash c = eqb c 35
 abbrev pub bare : List ℕ → List ℕ
 bare l = before is-hash l
 
+-- where a word ends in a text of many lines: at a blank, at its line's end, or where the comment begins
+abbrev pub ends-word : ℕ → Bool
+ends-word c = is-blank c || (is-lf c || is-hash c)
+
 -- a number: decimal digits, as many as you like, at least one
 abbrev pub is-digit : ℕ → Bool
 is-digit c = leb 48 c && leb c 57

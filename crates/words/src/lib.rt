@@ -1,12 +1,12 @@
 // Text as bytes: where lines and words end, and numbers in decimal, read and written.
 ghost use mathlib.Core.Path.{_≡_};
-ghost use mathlib.Core.Bool.{not, _||_};
+ghost use mathlib.Core.Bool.{not};
 ghost use mathlib.Core.List.{_++_, _∷_, []};
 ghost use Prim.Native.Nat.{_+_, _*_, _≤_, _<_, min};
 ghost use lib.ListN.{length, take, drop};
 ghost use lib.Seq.{sets};
 ghost use Rattle.rules.specs.Lists.{passed-over, same as same-list};
-ghost use Rattle.words.specs.Words.{is-lf, is-hash, is-blank, digit as glyph, decimal};
+ghost use Rattle.words.specs.Words.{is-lf, is-blank, ends-word, digit as glyph, decimal};
 ghost use Rattle.words.specs.Counted.{most, counted};
 ghost use Rattle.words.specs.Eight.{bytes};
 
@@ -86,25 +86,6 @@ fn first_lf(x: u64) -> usize
     u64::trailing_zeros(marks) as usize / 8
 }
 
-// Where the line's comment begins, if it has one, or else where the line ends.
-pub fn bare_end(text: &[u8], at: usize) -> usize
-    requires { ⌜ at ≤ length (now text) ⌝ }
-    ensures { λ r. ⌜ r ≡ at + passed-over (λ c. is-lf c || is-hash c) (drop at (now (text .entry))) ⌝ }
-{
-    let mut i = at;
-    while i < text.len() {
-        let c = text[i];
-        if c == b'\n' {
-            return i;
-        }
-        if c == b'#' {
-            return i;
-        }
-        i += 1;
-    }
-    i
-}
-
 // Whether a character is a blank.
 fn blank(c: u8) -> bool
     ensures { λ r. ⌜ r ≡ is-blank c ⌝ }
@@ -118,14 +99,28 @@ fn blank(c: u8) -> bool
     c == b'\r'
 }
 
-// The next character from `at` on that is no blank, and the next that is one; else the line's end.
-pub fn word_start(line: &[u8], at: usize) -> usize
-    requires { ⌜ at ≤ length (now line) ⌝ }
-    ensures { λ r. ⌜ r ≡ at + passed-over (λ c. not (is-blank c)) (drop at (now (line .entry))) ⌝ }
+// Whether a word cannot go on with a character: at a blank, at LF, or at the # of a comment.
+fn ends(c: u8) -> bool
+    ensures { λ r. ⌜ r ≡ ends-word c ⌝ }
+{
+    if blank(c) {
+        return true;
+    }
+    if c == b'\n' {
+        return true;
+    }
+    c == b'#'
+}
+
+// Where the next word of a line starts, from `at` on, and where a word ends. LF and # are no blanks and no part of a word, so
+// both stop where the line or its comment does, and nobody has to look for that place first.
+pub fn word_start(text: &[u8], at: usize) -> usize
+    requires { ⌜ at ≤ length (now text) ⌝ }
+    ensures { λ r. ⌜ r ≡ at + passed-over (λ c. not (is-blank c)) (drop at (now (text .entry))) ⌝ }
 {
     let mut i = at;
-    while i < line.len() {
-        if !blank(line[i]) {
+    while i < text.len() {
+        if !blank(text[i]) {
             return i;
         }
         i += 1;
@@ -133,13 +128,13 @@ pub fn word_start(line: &[u8], at: usize) -> usize
     i
 }
 
-pub fn word_end(line: &[u8], at: usize) -> usize
-    requires { ⌜ at ≤ length (now line) ⌝ }
-    ensures { λ r. ⌜ r ≡ at + passed-over is-blank (drop at (now (line .entry))) ⌝ }
+pub fn word_end(text: &[u8], at: usize) -> usize
+    requires { ⌜ at ≤ length (now text) ⌝ }
+    ensures { λ r. ⌜ r ≡ at + passed-over ends-word (drop at (now (text .entry))) ⌝ }
 {
     let mut i = at;
-    while i < line.len() {
-        if blank(line[i]) {
+    while i < text.len() {
+        if ends(text[i]) {
             return i;
         }
         i += 1;

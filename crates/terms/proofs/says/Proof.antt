@@ -1,76 +1,64 @@
--- The first word, the next, and whether another comes after it: that is all of a line that matters.
+-- The first word, the next, and whether another comes after it: that is all of a line that matters. What the scans of the text
+-- find are the words of the line, its comment apart.
 use Prim.Native.Nat.{ℕ}
 use mathlib.Core.Path.{_≡_, refl, sym, ap, _∙_}
-use mathlib.Core.List.{List, [], _∷_}
+use mathlib.Core.List.{List, []}
 use native.Mathlib.Omega.{arith}
 use borrow.Author.Needs.{needs}
-use Rattle.words.specs.Words.{words}
 use Rattle.terms.specs.declared.Line.the-variants.{Nothing, Term}
-use Rattle.terms.specs.Terms.{term, says-by}
-use Rattle.terms.specs.Seen.{seen, cube-seen, after}
-use Rattle.terms.proofs.InLine.{part, Word, start-within, end-within, word-none, line-seen, dot-first, no-dot-first}
+use Rattle.terms.specs.Terms.{says-by}
+use Rattle.terms.specs.Seen.{seen}
+use Rattle.terms.proofs.InLine.{Found, no-word, first-near, from-in, to-in, start-in, end-in, next-in, next-near, next-low, from-below, keyword-said, term-said}
 use Rattle.terms.proofs.says.Statement.{statement}
 use Rattle.terms.proofs.says.Tie as tie
 
--- the first word, once it is found
-first : (c : tie.After-word-end) → Word (c .before .before .before .before .args .line .now) 0 (c .before .before .word-start .result) (c .word-end .result)
-first c = record { in-line = omega arith; starts = c .before .before .word-start .ensures; ends = c .word-end .ensures }
-
-next : (c : tie.After-word-end2)
-    → let one = c .before .before in
-    Word (one .before .before .before .before .args .line .now) (one .word-end .result) (c .before .word-start2 .result) (c .word-end2 .result)
-next c =
-    let one = c .before .before in
-    record { in-line = end-within _ _ _ _ (first one); starts = c .before .word-start2 .ensures; ends = c .word-end2 .ensures }
-
-none-said : seen (says-by []) ≡ Nothing
+none-said : {l : List (List ℕ)} → l ≡ [] → Nothing ≡ seen (says-by l)
 unfolding says-by seen
-none-said = refl
+none-said e = sym (ap (λ (ws : List (List ℕ)). seen (says-by ws)) e)
 
-term-said : (w : List ℕ) (ws : List (List ℕ)) → seen (term w ws) ≡ Term (cube-seen w ws)
-unfolding seen
-term-said w ws = refl
-
--- what was found decides what is kept
-found : (c : tie.After-last)
-    → let two = c .before in
-    let one = two .before .before in
-    let line = one .before .before .before .before .args .line .now in
-    seen (says-by (words line)) ≡ seen (says-by (part line (one .before .before .word-start .result) (one .word-end .result) ∷ after (c .last .result) (part line (two .before .word-start2 .result) (two .word-end2 .result))))
-found c = let two = c .before in let one = two .before .before in line-seen _ _ _ _ _ (first one) (next two) (one .before .if1 .left) (c .last .result) (c .last .ensures)
+-- what all scans found
+found : (c : tie.After-word-start3)
+    → let start = c .before .before .before .before .before .before .before .before .args in
+    Found (start .text .now) (start .at) (c .before .before .before .before .before .before .word-start .result) (c .before .before .before .word-end .result) (c .before .before .word-start2 .result) (c .before .word-end2 .result) (c .word-start3 .result)
+found c = record { begins = c .before .before .before .before .before .before .before .before .pre; first-starts = c .before .before .before .before .before .before .word-start .ensures; first-ends = c .before .before .before .word-end .ensures; next-starts = c .before .before .word-start2 .ensures; next-ends = c .before .word-end2 .ensures; more-starts = c .word-start3 .ensures }
 
 pub says-spec : {M : Type 1} → statement M
 says-spec =
     tie.close
     (tie.spec
     (λ c κs. search needs)
-    (λ c. sym (ap (λ (ws : List (List ℕ)). seen (says-by ws)) (word-none (c .before .before .before .args .line .now) 0 _ _ (record { in-line = omega arith; starts = c .before .word-start .ensures; ends = refl }) (c .if1 .taken)) ∙ none-said))
-    (λ c κs. search needs)
-    (λ c κs. end-within _ _ _ _ (first c))
-    (λ c κs. start-within (c .before .before .before .before .before .args .line .now) _ _ _ (record { in-line = end-within _ _ _ _ (first (c .before)); starts = c .word-start2 .ensures; ends = refl }))
-    (λ c κs. end-within _ _ _ _ (next c))
+    (λ c κs. from-in _ _ _ _ _ _ _ (record { begins = c .before .before .pre; first-starts = c .word-start .ensures; first-ends = refl; next-starts = refl; next-ends = refl; more-starts = refl }))
+    (λ c. (
+      none-said (no-word _ _ _ (c .before .before .before .before .pre) (c .before .before .word-start .ensures) (sym (c .before .ended .ensures) ∙ c .if1 .taken)),
+      (omega (arith, c .before .before .word-start .ensures), first-near _ _ _ (c .before .before .word-start .ensures)),
+    ))
+    (λ c κs. from-in _ _ _ _ _ _ _ (record { begins = c .before .before .before .before .pre; first-starts = c .before .before .word-start .ensures; first-ends = refl; next-starts = refl; next-ends = refl; more-starts = refl }))
+    (λ c κs. to-in _ _ _ _ _ _ _ (record { begins = c .before .before .before .before .before .pre; first-starts = c .before .before .before .word-start .ensures; first-ends = c .word-end .ensures; next-starts = refl; next-ends = refl; more-starts = refl }))
+    (λ c κs. start-in _ _ _ _ _ _ _ (record { begins = c .before .before .before .before .before .before .pre; first-starts = c .before .before .before .before .word-start .ensures; first-ends = c .before .word-end .ensures; next-starts = c .word-start2 .ensures; next-ends = refl; more-starts = refl }))
+    (λ c κs. end-in _ _ _ _ _ _ _ (record { begins = c .before .before .before .before .before .before .before .pre; first-starts = c .before .before .before .before .before .word-start .ensures; first-ends = c .before .before .word-end .ensures; next-starts = c .before .word-start2 .ensures; next-ends = c .word-end2 .ensures; more-starts = refl }))
+    (λ c κs. next-in _ _ _ _ _ _ _ (found c))
+    (λ c. from-below _ _ _ _ _ _ _ (found (c .before .before)) (sym (c .before .before .before .before .before .before .before .ended .ensures) ∙ c .before .before .before .before .before .before .if1 .left) _ (c .before .last .ensures))
     (λ c. search needs)
     (λ c. search needs)
-    (λ c. search needs)
-    (λ c. end-within _ _ _ _ (first (c .before .before .before .before .before)))
-    (λ c. search needs)
-    (λ c. search needs)
-    (λ c. end-within _ _ _ _ (next (c .before .before .before .before)))
-    (λ c κs. search needs)
-    (λ c.
-    let done = c .before .before .before .before .before in
-    let one = done .before .before .before in
-    c .keyword .ensures
-    ∙ sym (found done ∙ ap seen (dot-first _ _ _ _ _ (first one) (next (done .before)) _ (one .before .if1 .left) (c .before .before .before .if2 .taken))))
+    (λ c. to-in _ _ _ _ _ _ _ (found (c .before .before .before)))
     (λ c. search needs)
     (λ c. search needs)
-    (λ c. end-within _ _ _ _ (first (c .before .before .before .before .before)))
-    (λ c. search needs)
-    (λ c. search needs)
-    (λ c. end-within _ _ _ _ (next (c .before .before .before .before)))
+    (λ c. end-in _ _ _ _ _ _ _ (found (c .before .before .before .before)))
     (λ c κs. search needs)
     (λ c.
-    let done = c .before .before .before .before .before in
-    let one = done .before .before .before in
-    ap Term (c .term .ensures)
-    ∙ sym (found done ∙ ap seen (no-dot-first _ _ _ _ _ (first one) (next (done .before)) _ (one .before .if1 .left) (c .before .before .before .if2 .left)) ∙ term-said _ _)))
+    let scans = c .before .before .before .before .before .before in (
+      c .keyword .ensures ∙ sym (keyword-said _ _ _ _ _ _ _ (found scans) (sym (scans .before .before .before .before .before .ended .ensures) ∙ scans .before .before .before .before .if1 .left) _ (c .before .before .before .before .before .last .ensures) (c .before .before .before .if2 .taken)),
+      (next-low _ _ _ _ _ _ _ (found scans), next-near _ _ _ _ _ _ _ (found scans)),
+    ))
+    (λ c. search needs)
+    (λ c. search needs)
+    (λ c. to-in _ _ _ _ _ _ _ (found (c .before .before .before)))
+    (λ c. search needs)
+    (λ c. search needs)
+    (λ c. end-in _ _ _ _ _ _ _ (found (c .before .before .before .before)))
+    (λ c κs. search needs)
+    (λ c.
+    let scans = c .before .before .before .before .before .before in (
+      ap Term (c .term .ensures) ∙ sym (term-said _ _ _ _ _ _ _ (found scans) (sym (scans .before .before .before .before .before .ended .ensures) ∙ scans .before .before .before .before .if1 .left) _ (c .before .before .before .before .before .last .ensures) (c .before .before .before .if2 .left)),
+      (next-low _ _ _ _ _ _ _ (found scans), next-near _ _ _ _ _ _ _ (found scans)),
+    )))

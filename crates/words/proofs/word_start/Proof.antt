@@ -11,10 +11,10 @@ use Rattle.words.proofs.word_start.Statement.{statement}
 use Rattle.words.proofs.word_start.Tie as tie
 
 abbrev Inv-loop : tie.InvT-loop
-Inv-loop line at i₀ i = Scan (λ c. not (is-blank c)) line at i
+Inv-loop text at i₀ i = Scan (λ c. not (is-blank c)) text at i
 
 abbrev μ-loop : tie.MeasureT-loop
-μ-loop line at i₀ i = length line - i
+μ-loop text at i₀ i = length text - i
 
 pub word-start-spec : {M : Type 1} → statement M
 word-start-spec =
