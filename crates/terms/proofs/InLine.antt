@@ -1,5 +1,6 @@
 -- The words of a line, one after another, as they are found; of those after the first it matters only whether there is just one,
--- and which.
+-- and which. They are looked for in the text itself: a scan that stops at LF and # finds there what it would find in the line
+-- alone, its comment apart.
 use Prim.Native.Nat.{ℕ, zero, suc, _+_, _-_, _≤_, _<_}
 use mathlib.Core.Path.{_≡_, refl, sym, ap, ap₂, _∙_, subst}
 use mathlib.Core.Bool.{Bool, true, false, cond, not, _&&_, _||_, and-false}
