@@ -279,6 +279,43 @@ module _ (k : Known) (said : List Says) (knows : Knows k said) where
     unfolding of-keyword
     stood-now name own = stands-next name said (keyword name v) ∙ or-right (stands name said) own
 
+    -- one that is not `.i`: n stays, and each other value is given with its proof
+    module _ (name : List ℕ) (k′ : Known) (none : same dot-i name ≡ false) (n : k′ .n ≡ k .n) where
+      other : k′ .one ≡ stands dot-o (said ++ (keyword name v ∷ [])) → k′ .fr ≡ stands dot-type (said ++ (keyword name v ∷ [])) → k′ .counted ≡ stands dot-p (said ++ (keyword name v ∷ []))
+          → k′ .told ≡ min (told dot-p (said ++ (keyword name v ∷ []))) most → k′ .terms ≡ k .terms → k′ .on ≡ k .on → k′ .off ≡ k .off → Knows k′ (said ++ (keyword name v ∷ []))
+      unfolding of-keyword of-term
+      other one fr counted told′ terms′ on off =
+          let s = knows .stood in
+          let this = keyword name v in
+          record {
+            stood = record {
+              inputs-told = n ∙ s .inputs-told ∙ sym (told-same dot-i said this none);
+              inputs-stand = stands-same dot-i said this none ∙ s .inputs-stand ∙ ap (ltb 0) (sym n);
+              few = subst (λ (m : ℕ). m ≤ 8) (sym n) (s .few);
+              one-stands = one;
+              fr-stands = fr;
+              counted-stands = counted;
+              told-is = told′;
+            };
+            counts = counts-same k k′ said this terms′ on off refl (λ c. refl) (knows .counts);
+          }
+
+    one-same : (name : List ℕ) → same dot-o name ≡ false → k .one ≡ stands dot-o (said ++ (keyword name v ∷ []))
+    unfolding of-keyword
+    one-same name none = knows .stood .one-stands ∙ sym (stands-same dot-o said (keyword name v) none)
+
+    fr-same : (name : List ℕ) → same dot-type name ≡ false → k .fr ≡ stands dot-type (said ++ (keyword name v ∷ []))
+    unfolding of-keyword
+    fr-same name none = knows .stood .fr-stands ∙ sym (stands-same dot-type said (keyword name v) none)
+
+    counted-same : (name : List ℕ) → same dot-p name ≡ false → k .counted ≡ stands dot-p (said ++ (keyword name v ∷ []))
+    unfolding of-keyword
+    counted-same name none = knows .stood .counted-stands ∙ sym (stands-same dot-p said (keyword name v) none)
+
+    told-kept : (name : List ℕ) → same dot-p name ≡ false → k .told ≡ min (told dot-p (said ++ (keyword name v ∷ []))) most
+    unfolding of-keyword
+    told-kept name none = knows .stood .told-is ∙ ap (λ (m : ℕ). min m most) (sym (told-same dot-p said (keyword name v) none))
+
     next-i : line-code said (keyword dot-i v) ≡ 0 → Next (keyword dot-i v)
     unfolding seen of-keyword of-term same
     next-i e =
@@ -292,67 +329,27 @@ module _ (k : Known) (said : List Says) (knows : Knows k said) where
             inputs-told = is ∙ sym (told-new dot-i v said (passed .0) refl);
             inputs-stand = stood-now dot-i refl ∙ sym (lt-ltb 0 (min (value v) most % 256) (omega (arith, is, range .0)));
             few = omega (arith, is, range .1);
-            one-stands = s .one-stands ∙ sym (stands-same dot-o said this refl);
-            fr-stands = s .fr-stands ∙ sym (stands-same dot-type said this refl);
-            counted-stands = s .counted-stands ∙ sym (stands-same dot-p said this refl);
-            told-is = s .told-is ∙ ap (λ (m : ℕ). min m most) (sym (told-same dot-p said this refl));
+            one-stands = one-same dot-i refl;
+            fr-stands = fr-same dot-i refl;
+            counted-stands = counted-same dot-i refl;
+            told-is = told-kept dot-i refl;
           };
           counts = counts-same k _ said this refl refl refl refl (λ c. refl) (knows .counts);
         }
 
-    next-o : line-code said (keyword dot-o v) ≡ 0 → Next (keyword dot-o v)
-    unfolding seen of-keyword of-term same
-    next-o e =
-        let s = knows .stood in
-        let this = keyword dot-o v in
-        record {
-          stood = record {
-            inputs-told = s .inputs-told ∙ sym (told-same dot-i said this refl);
-            inputs-stand = stands-same dot-i said this refl ∙ s .inputs-stand;
-            few = s .few;
-            one-stands = sym (stood-now dot-o refl);
-            fr-stands = s .fr-stands ∙ sym (stands-same dot-type said this refl);
-            counted-stands = s .counted-stands ∙ sym (stands-same dot-p said this refl);
-            told-is = s .told-is ∙ ap (λ (m : ℕ). min m most) (sym (told-same dot-p said this refl));
-          };
-          counts = counts-same k _ said this refl refl refl refl (λ c. refl) (knows .counts);
-        }
+    next-o : Next (keyword dot-o v)
+    unfolding seen same
+    next-o = other dot-o _ refl refl (sym (stood-now dot-o refl)) (fr-same dot-o refl) (counted-same dot-o refl) (told-kept dot-o refl) refl refl refl
 
-    next-type : line-code said (keyword dot-type v) ≡ 0 → Next (keyword dot-type v)
-    unfolding seen of-keyword of-term same
-    next-type e =
-        let s = knows .stood in
-        let this = keyword dot-type v in
-        record {
-          stood = record {
-            inputs-told = s .inputs-told ∙ sym (told-same dot-i said this refl);
-            inputs-stand = stands-same dot-i said this refl ∙ s .inputs-stand;
-            few = s .few;
-            one-stands = s .one-stands ∙ sym (stands-same dot-o said this refl);
-            fr-stands = sym (stood-now dot-type refl);
-            counted-stands = s .counted-stands ∙ sym (stands-same dot-p said this refl);
-            told-is = s .told-is ∙ ap (λ (m : ℕ). min m most) (sym (told-same dot-p said this refl));
-          };
-          counts = counts-same k _ said this refl refl refl refl (λ c. refl) (knows .counts);
-        }
+    next-type : Next (keyword dot-type v)
+    unfolding seen same
+    next-type = other dot-type _ refl refl (one-same dot-type refl) (sym (stood-now dot-type refl)) (counted-same dot-type refl) (told-kept dot-type refl) refl refl refl
 
     next-p : line-code said (keyword dot-p v) ≡ 0 → Next (keyword dot-p v)
-    unfolding seen of-keyword of-term same
+    unfolding seen same
     next-p e =
-        let s = knows .stood in
-        let this = keyword dot-p v in
-        record {
-          stood = record {
-            inputs-told = s .inputs-told ∙ sym (told-same dot-i said this refl);
-            inputs-stand = stands-same dot-i said this refl ∙ s .inputs-stand;
-            few = s .few;
-            one-stands = s .one-stands ∙ sym (stands-same dot-o said this refl);
-            fr-stands = s .fr-stands ∙ sym (stands-same dot-type said this refl);
-            counted-stands = sym (stood-now dot-p refl);
-            told-is = ap (λ (m : ℕ). min m most) (sym (told-new dot-p v said (keyword-passed said dot-p v e .0) refl));
-          };
-          counts = counts-same k _ said this refl refl refl refl (λ c. refl) (knows .counts);
-        }
+        other dot-p _ refl refl (one-same dot-p refl) (fr-same dot-p refl) (sym (stood-now dot-p refl))
+        (ap (λ (m : ℕ). min m most) (sym (told-new dot-p v said (keyword-passed said dot-p v e .0) refl))) refl refl refl
 
   next-term : (w : List ℕ) (ws : List (List ℕ)) → line-code said (term w ws) ≡ 0 → Next (term w ws)
   unfolding seen of-keyword of-term
@@ -371,7 +368,7 @@ module _ (k : Known) (said : List Says) (knows : Knows k said) where
   pub learnt-known : (s : Says) → proper s ≡ true → line-code said s ≡ 0 → Next s
   unfolding seen of-keyword of-term
   learnt-known nothing p e = silent nothing (λ name. refl) refl (λ c. refl)
-  learnt-known (keyword name v) p e = keyword-cases (λ name. line-code said (keyword name v) ≡ 0 → Next (keyword name v)) (next-i v) (next-o v) (next-type v) (next-p v) name p e
+  learnt-known (keyword name v) p e = keyword-cases (λ name. line-code said (keyword name v) ≡ 0 → Next (keyword name v)) (next-i v) (λ _. next-o v) (λ _. next-type v) (next-p v) name p e
   learnt-known (term w ws) p e = next-term w ws e
   learnt-known end p e = silent end (λ name. refl) refl (λ c. refl)
   learnt-known malformed p e = silent malformed (λ name. refl) refl (λ c. refl)

@@ -1,7 +1,7 @@
--- The walk over the lines of a text: what remains decides, and what was kept is what the lines before said.
+-- The walk ends-bare the lines of a text: what remains decides, and what was kept is what the lines before said.
 use Prim.Native.Nat.{ℕ, suc, _+_, _*_, _-_, _^_, _≤_, _<_}
 use mathlib.Core.Path.{_≡_, refl, sym, ap, ap₂, _∙_, subst}
-use mathlib.Core.Bool.{Bool, true, false, cond, _&&_, _||_, false≢true}
+use mathlib.Core.Bool.{Bool, true, false, cond, _&&_, false≢true}
 use mathlib.Core.List.{List, [], _∷_, _++_, map, append-nil}
 use native.Mathlib.Omega.{arith}
 use borrow.Author.Tests.{eq-eqb, ne-eqb, ltb-true, ltb-false}
@@ -12,7 +12,7 @@ use Rattle.answers.specs.declared.Fault.{Fault}
 use Rattle.answers.specs.Answers.{fault, sound}
 use Rattle.bits.proofs.Tests.{both-left}
 use Rattle.rules.specs.Lists.{some-in, count-in, passed-over}
-use Rattle.words.specs.Words.{before, lines, words, pieces, is-lf, is-hash}
+use Rattle.words.specs.Words.{before, lines, words, pieces, is-lf, ends-bare}
 use Rattle.words.proofs.Pieces.{passed-over-within, over-from, pieces-step, bare-line, line-beyond}
 use Rattle.terms.specs.declared.Cube.{Cube}
 use Rattle.terms.specs.declared.Line.{Line}
@@ -120,12 +120,8 @@ off-next k unknown = refl
 
 -- ---- a line of the text
 
--- a line goes on up to LF, and its comment apart up to LF or #
-abbrev over : ℕ → Bool
-over c = is-lf c || is-hash c
-
 -- `to` is a place in it, from which on its end was looked for
-module _ (text : List ℕ) (at : ℕ) (h : at < length text) (to last : ℕ) (low : at ≤ to) (high : to ≤ at + passed-over over (drop at text))
+module _ (text : List ℕ) (at : ℕ) (h : at < length text) (to last : ℕ) (low : at ≤ to) (high : to ≤ at + passed-over ends-bare (drop at text))
     (ends : last ≡ to + passed-over is-lf (drop to text)) where
   line-ends : last ≡ at + passed-over is-lf (drop at text)
   line-ends =
@@ -134,12 +130,12 @@ module _ (text : List ℕ) (at : ℕ) (h : at < length text) (to last : ℕ) (lo
       omega (arith, low, ends, far, ap (passed-over is-lf) (drop-drop (to - at) at text ∙ ap (λ (k : ℕ). drop k text) back))
 
   pub to-within : to ≤ length text
-  to-within = omega (arith, high, h, passed-over-within over (drop at text), length-drop at text)
+  to-within = omega (arith, high, h, passed-over-within ends-bare (drop at text), length-drop at text)
 
   pub last-within : (at ≤ last) × (last ≤ length text)
   last-within = (omega (arith, line-ends), omega (arith, line-ends, passed-over-within is-lf (drop at text), length-drop at text))
 
-  pub line-here : map says (lines (drop at text)) ≡ says-by (words (before over (drop at text))) ∷ map says (lines (drop (last + 1) text))
+  pub line-here : map says (lines (drop at text)) ≡ says-by (words (before ends-bare (drop at text))) ∷ map says (lines (drop (last + 1) text))
   line-here =
       let s = drop at text in
       let k = passed-over is-lf s in
@@ -246,10 +242,10 @@ end-complete said unknown e z = absurd (false≢true e)
 
 -- a turn of the walk, with what the calls gave
 module _ (text : List ℕ) (at row : ℕ) (k : Known) (on off : List ℕ) (w : Scanned text at row k on off) (h : at < length text) (small : length text < 2 ^ 63) (to : ℕ)
-    (low : at ≤ to) (high : to ≤ at + passed-over over (drop at text)) where
+    (low : at ≤ to) (high : to ≤ at + passed-over ends-bare (drop at text)) where
   -- what the line says
   abbrev this : Says
-  this = says-by (words (before over (drop at text)))
+  this = says-by (words (before ends-bare (drop at text)))
 
   abbrev after : ℕ
   after = to + passed-over is-lf (drop to text)
@@ -261,7 +257,7 @@ module _ (text : List ℕ) (at row : ℕ) (k : Known) (on off : List ℕ) (w : S
   here = line-here text at h to after low high refl
 
   judged : code-by k (seen this) ≡ line-code (w .said) this
-  judged = code-known k (w .said) (w .knows) this (says-proper (words (before over (drop at text)))) (omega (arith, w .fewer, h, small))
+  judged = code-known k (w .said) (w .knows) this (says-proper (words (before ends-bare (drop at text)))) (omega (arith, w .fewer, h, small))
 
   pub turn-fault : (code : ℕ) → code ≡ code-by k (seen this) → (code ≡ 0 → ⊥) → (r : Scan) → r .fault ≡ fault code row → Gathered text on off r
   turn-fault code e bad r stopped =
@@ -303,7 +299,7 @@ module _ (text : List ℕ) (at row : ℕ) (k : Known) (on off : List ℕ) (w : S
           fewer = omega (arith, w .fewer, last-within text at h to after low high refl .0, length-append (w .said) (this ∷ []));
           faults = next .0;
           front = next .1;
-          knows = learnt-known k (w .said) (w .knows) this (says-proper (words (before over (drop at text)))) sound-line;
+          knows = learnt-known k (w .said) (w .knows) this (says-proper (words (before ends-bare (drop at text)))) sound-line;
           on-kept = subst (λ (count : ℕ). Kept on-char (w .said ++ (this ∷ [])) count (kept on-char (cube-in (seen this)) (k .on) on)) (sym (on-next k this)) (kept-next on-char refl (w .said) (k .on) on (w .on-kept) this few sound-line);
           off-kept = subst (λ (count : ℕ). Kept off-char (w .said ++ (this ∷ [])) count (kept off-char (cube-in (seen this)) (k .off) off)) (sym (off-next k this)) (kept-next off-char refl (w .said) (k .off) off (w .off-kept) this few sound-line);
         }

@@ -3,7 +3,7 @@
 -- alone, its comment apart.
 use Prim.Native.Nat.{ℕ, zero, suc, _+_, _-_, _≤_, _<_}
 use mathlib.Core.Path.{_≡_, refl, sym, ap, ap₂, _∙_, subst}
-use mathlib.Core.Bool.{Bool, true, false, cond, not, _&&_, _||_, and-false}
+use mathlib.Core.Bool.{Bool, true, false, cond, not, _&&_, and-false}
 use mathlib.Core.List.{List, [], _∷_}
 use mathlib.Core.Logic.{⊎-elim}
 use native.Mathlib.Omega.{arith}
@@ -13,7 +13,7 @@ use lib.ListN.{length, getD, take, drop, length-take, length-drop, drop-of-lengt
 use lib.Seq.{drop-drop, getD-drop, getD-take, take-take, take-nil}
 use Rattle.bits.proofs.Tests.{either, below-or-not}
 use Rattle.rules.specs.Lists.{passed-over}
-use Rattle.words.specs.Words.{before, words, is-blank, is-lf, is-hash, ends-word}
+use Rattle.words.specs.Words.{before, words, is-blank, is-lf, is-hash, ends-bare, ends-word}
 use Rattle.words.proofs.Pieces.{passed-over-within, place-passes, some-before, over-from, before-from, over-before, over-implied, words-from, words-none, words-step}
 use Rattle.terms.specs.declared.Line.the-variants.{Term}
 use Rattle.terms.specs.Terms.{term, dot, alone, second, keyword-line, says-by, well-formed}
@@ -103,25 +103,22 @@ module _ (s : List ℕ) where
 -- ---- the line that begins at a place of a text, its comment apart: what the scans of the text find is what they would find in
 -- the line alone
 
-abbrev pub over : ℕ → Bool
-over c = is-lf c || is-hash c
-
 -- LF and # are no blanks
-over-no-blank : (c : ℕ) → over c ≡ true → not (is-blank c) ≡ true
-over-no-blank c e = ⊎-elim (λ (z : is-lf c ≡ true). is c 10 (eqb-true c 10 z) refl) (λ (z : is-hash c ≡ true). is c 35 (eqb-true c 35 z) refl) (either (is-lf c) (is-hash c) e)
+bare-no-blank : (c : ℕ) → ends-bare c ≡ true → not (is-blank c) ≡ true
+bare-no-blank c e = ⊎-elim (λ (z : is-lf c ≡ true). is c 10 (eqb-true c 10 z) refl) (λ (z : is-hash c ≡ true). is c 35 (eqb-true c 35 z) refl) (either (is-lf c) (is-hash c) e)
   where
     is : (c k : ℕ) → c ≡ k → not (is-blank k) ≡ true → not (is-blank c) ≡ true
     is c k z f = ap (λ (m : ℕ). not (is-blank m)) z ∙ f
 
 module _ (text : List ℕ) (at : ℕ) where
   abbrev pub bare-here : List ℕ
-  bare-here = before over (drop at text)
+  bare-here = before ends-bare (drop at text)
 
-  pub bare-long : length bare-here ≡ passed-over over (drop at text)
-  bare-long = omega (arith, length-take (passed-over over (drop at text)) (drop at text), passed-over-within over (drop at text))
+  pub bare-long : length bare-here ≡ passed-over ends-bare (drop at text)
+  bare-long = omega (arith, length-take (passed-over ends-bare (drop at text)) (drop at text), passed-over-within ends-bare (drop at text))
 
   pub bare-in-text : at ≤ length text → at + length bare-here ≤ length text
-  bare-in-text h = omega (arith, h, bare-long, passed-over-within over (drop at text), length-drop at text)
+  bare-in-text h = omega (arith, h, bare-long, passed-over-within ends-bare (drop at text), length-drop at text)
 
   -- a place of the text that lies in the line
   pub record Here (x : ℕ) : Type 0 where
@@ -135,31 +132,31 @@ module _ (text : List ℕ) (at : ℕ) where
         drop-drop (x - at) at text ∙ ap (λ (k : ℕ). drop k text) back
 
     -- the line from there on
-    pub bare-rest : drop (x - at) bare-here ≡ before over (drop x text)
-    bare-rest = before-from over (x - at) (drop at text) (omega (arith, h .high, bare-long)) ∙ ap (before over) there
+    pub bare-rest : drop (x - at) bare-here ≡ before ends-bare (drop x text)
+    bare-rest = before-from ends-bare (x - at) (drop at text) (omega (arith, h .high, bare-long)) ∙ ap (before ends-bare) there
 
     -- how far its end is
-    pub bare-left : passed-over over (drop x text) ≡ at + length bare-here - x
+    pub bare-left : passed-over ends-bare (drop x text) ≡ at + length bare-here - x
     bare-left =
-        let far = over-from over (x - at) (drop at text) (omega (arith, h .high, bare-long)) in
-        omega (arith, far, ap (passed-over over) there, bare-long, h .low, h .high)
+        let far = over-from ends-bare (x - at) (drop at text) (omega (arith, h .high, bare-long)) in
+        omega (arith, far, ap (passed-over ends-bare) there, bare-long, h .low, h .high)
 
     pub start-here : (y : ℕ) → y ≡ x + passed-over (λ c. not (is-blank c)) (drop x text)
         → y - at ≡ x - at + passed-over (λ c. not (is-blank c)) (drop (x - at) bare-here)
     start-here y e =
-        let same = ap (passed-over (λ c. not (is-blank c))) bare-rest ∙ over-implied (λ c. not (is-blank c)) over over-no-blank (drop x text) in
+        let same = ap (passed-over (λ c. not (is-blank c))) bare-rest ∙ over-implied (λ c. not (is-blank c)) ends-bare bare-no-blank (drop x text) in
         omega (arith, e, same, h .low)
 
     pub end-here : (y : ℕ) → y ≡ x + passed-over ends-word (drop x text) → y - at ≡ x - at + passed-over is-blank (drop (x - at) bare-here)
     end-here y e =
-        let same : passed-over is-blank (drop (x - at) bare-here) ≡ passed-over ends-word (drop x text) = ap (passed-over is-blank) bare-rest ∙ over-before is-blank over (drop x text) in
+        let same : passed-over is-blank (drop (x - at) bare-here) ≡ passed-over ends-word (drop x text) = ap (passed-over is-blank) bare-rest ∙ over-before is-blank ends-bare (drop x text) in
         omega (arith, e, same, h .low)
 
     -- a part of the text that lies in the line is that part of the line
     pub part-here : (y : ℕ) → Here y → take (y - x) (drop x text) ≡ part bare-here (x - at) (y - at)
     part-here y g =
         let long : y - x ≡ y - at - (x - at) = omega (arith, h .low, g .low) in
-        sym (take-take (y - x) (passed-over over (drop x text)) (drop x text) (omega (arith, bare-left, g .high)))
+        sym (take-take (y - x) (passed-over ends-bare (drop x text)) (drop x text) (omega (arith, bare-left, g .high)))
         ∙ ap₂ take long (sym bare-rest)
 
     -- and so is a character
@@ -167,7 +164,7 @@ module _ (text : List ℕ) (at : ℕ) where
     char-here l =
         let back : x ≡ at + (x - at) = omega (arith, h .low) in
         ap (λ (k : ℕ). getD text k 0) back ∙ sym (getD-drop at text (x - at) 0)
-        ∙ sym (getD-take (passed-over over (drop at text)) (drop at text) (x - at) 0 (omega (arith, l, h .low, bare-long)))
+        ∙ sym (getD-take (passed-over ends-bare (drop at text)) (drop at text) (x - at) 0 (omega (arith, l, h .low, bare-long)))
 
     -- where a word starts or ends lies in the line too
     pub start-lies : (y : ℕ) → y ≡ x + passed-over (λ c. not (is-blank c)) (drop x text) → Here y
@@ -193,18 +190,18 @@ module _ (text : List ℕ) (at : ℕ) where
   word-here x q e h a b = record { in-line = omega (arith, h .high); starts = start-here x h q a; ends = end-here q (start-lies x h q a) e b }
 
   -- whether the line ends at a place
-  pub end-told : (x : ℕ) → Here x → eqb (passed-over over (drop x text)) 0 ≡ eqb (x - at) (length bare-here)
+  pub end-told : (x : ℕ) → Here x → eqb (passed-over ends-bare (drop x text)) 0 ≡ eqb (x - at) (length bare-here)
   end-told x h = ⊎-elim there gone (below-or-not (x - at) (length bare-here))
     where
-      there : x - at < length bare-here → eqb (passed-over over (drop x text)) 0 ≡ eqb (x - at) (length bare-here)
-      there l = ne-eqb (passed-over over (drop x text)) 0 (λ z. omega (arith, z, bare-left x h, l, h .low)) ∙ sym (ne-eqb (x - at) (length bare-here) (λ z. omega (arith, z, l)))
+      there : x - at < length bare-here → eqb (passed-over ends-bare (drop x text)) 0 ≡ eqb (x - at) (length bare-here)
+      there l = ne-eqb (passed-over ends-bare (drop x text)) 0 (λ z. omega (arith, z, bare-left x h, l, h .low)) ∙ sym (ne-eqb (x - at) (length bare-here) (λ z. omega (arith, z, l)))
 
-      gone : length bare-here ≤ x - at → eqb (passed-over over (drop x text)) 0 ≡ eqb (x - at) (length bare-here)
-      gone l = eq-eqb (passed-over over (drop x text)) 0 (omega (arith, bare-left x h, l, h .low)) ∙ sym (eq-eqb (x - at) (length bare-here) (omega (arith, l, h .low, h .high)))
+      gone : length bare-here ≤ x - at → eqb (passed-over ends-bare (drop x text)) 0 ≡ eqb (x - at) (length bare-here)
+      gone l = eq-eqb (passed-over ends-bare (drop x text)) 0 (omega (arith, bare-left x h, l, h .low)) ∙ sym (eq-eqb (x - at) (length bare-here) (omega (arith, l, h .low, h .high)))
 
   -- no word follows exactly if the next would start at the line's end
   pub none-here : (x y : ℕ) → Here x → y ≡ x + passed-over (λ c. not (is-blank c)) (drop x text)
-      → eqb (passed-over over (drop y text)) 0 ≡ eqb (length (words (drop (x - at) bare-here))) 0
+      → eqb (passed-over ends-bare (drop y text)) 0 ≡ eqb (length (words (drop (x - at) bare-here))) 0
   none-here x y h e = end-told y (start-lies x h y e) ∙ none-after bare-here (x - at) (y - at) (omega (arith, h .high)) (start-here x h y e)
 
 -- ---- the words after the first
@@ -252,15 +249,15 @@ module _ (s : List ℕ) (p e q d : ℕ) (first : Word s 0 p e) (next : Word s e 
 -- more would start at `next`
 
 pub no-word : (text : List ℕ) (at from : ℕ) → at ≤ length text → from ≡ at + passed-over (λ c. not (is-blank c)) (drop at text)
-    → eqb (passed-over over (drop from text)) 0 ≡ true → words (bare-here text at) ≡ []
+    → eqb (passed-over ends-bare (drop from text)) 0 ≡ true → words (bare-here text at) ≡ []
 no-word text at from h a e =
     let lies = start-lies text at at (starts-here text at) from a in
     let none : at - at ≡ 0 = omega arith in
-    let over-here = eqb-true (passed-over over (drop from text)) 0 e in
+    let over-here = eqb-true (passed-over ends-bare (drop from text)) 0 e in
     ap (λ (k : ℕ). words (drop k (bare-here text at))) (sym none)
     ∙ word-none (bare-here text at) (at - at) (from - at) _ (word-here text at at from _ (starts-here text at) a refl) (omega (arith, bare-left text at from lies, over-here, lies .low))
 
-pub first-near : (text : List ℕ) (at from : ℕ) → from ≡ at + passed-over (λ c. not (is-blank c)) (drop at text) → from ≤ at + passed-over over (drop at text)
+pub first-near : (text : List ℕ) (at from : ℕ) → from ≡ at + passed-over (λ c. not (is-blank c)) (drop at text) → from ≤ at + passed-over ends-bare (drop at text)
 first-near text at from a = omega (arith, start-lies text at at (starts-here text at) from a .high, bare-long text at)
 
 -- what the scans found, one after another
@@ -308,10 +305,10 @@ module _ (text : List ℕ) (at from to start end next : ℕ) (f : Found text at 
       gone : end ≤ start → ltb start end ≡ ltb (start - at) (end - at)
       gone l = le-ltb start end l ∙ sym (le-ltb (start - at) (end - at) (omega (arith, l)))
 
-  module _ (some : eqb (passed-over over (drop from text)) 0 ≡ false) (t : Bool) (is : t ≡ ltb start end && eqb (passed-over over (drop next text)) 0) where
+  module _ (some : eqb (passed-over ends-bare (drop from text)) 0 ≡ false) (t : Bool) (is : t ≡ ltb start end && eqb (passed-over ends-bare (drop next text)) 0) where
     before-end : from - at < length s
     before-end =
-        let more = eqb-false (passed-over over (drop from text)) 0 some in
+        let more = eqb-false (passed-over ends-bare (drop from text)) 0 some in
         ⊎-elim (λ (l : from - at < length s). l) (λ (l : length s ≤ from - at). absurd (more (omega (arith, l, bare-left text at from from-lies, from-lies .low))))
         (below-or-not (from - at) (length s))
 
@@ -372,5 +369,5 @@ module _ (text : List ℕ) (at from to start end next : ℕ) (f : Found text at 
   pub next-low : at ≤ next
   next-low = next-lies .low
 
-  pub next-near : next ≤ at + passed-over over (drop at text)
+  pub next-near : next ≤ at + passed-over ends-bare (drop at text)
   next-near = omega (arith, next-lies .high, bare-long text at)

@@ -1,6 +1,6 @@
 // One line of a table: what it says, and the lines of terms.
 ghost use mathlib.Core.Path.{_≡_};
-ghost use mathlib.Core.Bool.{cond, _&&_, _||_};
+ghost use mathlib.Core.Bool.{cond, _&&_};
 ghost use mathlib.Core.List.{_∷_, []};
 ghost use Rattle.bits.specs.Bits.{has};
 ghost use Prim.Native.Nat.{_+_, _≤_, _<_};
@@ -8,7 +8,7 @@ ghost use lib.Dec.{ltb, eqb};
 ghost use lib.ListN.{length, drop};
 ghost use lib.Seq.{sets};
 ghost use Rattle.rules.specs.Lists.{each-in, passed-over, same};
-ghost use Rattle.words.specs.Words.{words, before, is-lf, is-hash, line};
+ghost use Rattle.words.specs.Words.{words, before, ends-bare, line};
 ghost use Rattle.terms.specs.Terms.{is-input, inputs-with, on-char, off-char, keyword-line, says-by, dash, characters, term-lines};
 ghost use Rattle.terms.specs.Seen.{cube as cube-as, no-cube, cube-seen, seen, numbered, after};
 use words::Counted;
@@ -182,7 +182,7 @@ fn keyword(name: &[u8], v: &[u8], alone: bool) -> Line
 // Whether nothing more of a line comes at a place: the text ends there, the line, or what stands before its comment.
 fn ended(text: &[u8], at: usize) -> bool
     requires { ⌜ at ≤ length (now text) ⌝ }
-    ensures { λ r. ⌜ r ≡ eqb (passed-over (λ c. is-lf c || is-hash c) (drop at (now (text .entry)))) 0 ⌝ }
+    ensures { λ r. ⌜ r ≡ eqb (passed-over ends-bare (drop at (now (text .entry)))) 0 ⌝ }
 {
     if text.len() <= at {
         return true;
@@ -196,7 +196,7 @@ fn ended(text: &[u8], at: usize) -> bool
 // Whether the word from `start` to `end` is there, and no other behind it: the next would start at `next`.
 fn last(text: &[u8], start: usize, end: usize, next: usize) -> bool
     requires { ⌜ next ≤ length (now text) ⌝ }
-    ensures { λ r. ⌜ r ≡ ltb start end && eqb (passed-over (λ c. is-lf c || is-hash c) (drop next (now (text .entry)))) 0 ⌝ }
+    ensures { λ r. ⌜ r ≡ ltb start end && eqb (passed-over ends-bare (drop next (now (text .entry)))) 0 ⌝ }
 {
     if end <= start {
         return false;
@@ -213,9 +213,9 @@ pub struct Said {
 // What the line from `at` on says, its comment apart: its words are looked for in the text itself, which is gone through once.
 pub fn says(text: &[u8], at: usize) -> Said
     requires { ⌜ at ≤ length (now text) ⌝ }
-    ensures { λ r. ⌜ r .line ≡ seen (says-by (words (before (λ c. is-lf c || is-hash c) (drop at (now (text .entry)))))) ⌝ }
+    ensures { λ r. ⌜ r .line ≡ seen (says-by (words (before ends-bare (drop at (now (text .entry)))))) ⌝ }
     ensures { λ r. ⌜ at ≤ r .to ⌝ }
-    ensures { λ r. ⌜ r .to ≤ at + passed-over (λ c. is-lf c || is-hash c) (drop at (now (text .entry))) ⌝ }
+    ensures { λ r. ⌜ r .to ≤ at + passed-over ends-bare (drop at (now (text .entry))) ⌝ }
 {
     let from = words::word_start(text, at);
     if ended(text, from) {

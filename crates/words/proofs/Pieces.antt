@@ -12,7 +12,7 @@ use lib.ListN.{length, getD, take, drop, length-take, drop-of-length-le}
 use lib.Seq.{drop-cons, drop-length}
 use Rattle.bits.proofs.Tests.{both-left, both-right, cond-cases, below-or-not}
 use Rattle.rules.specs.Lists.{filter, each-in, passed-over}
-use Rattle.words.specs.Words.{onto, pieces, before, words, bare, is-blank, is-lf, is-hash}
+use Rattle.words.specs.Words.{onto, pieces, before, words, bare, is-blank, is-lf, is-hash, ends-bare}
 
 module _ (p : ℕ → Bool) where
   -- ---- the place of the first character that passes: not beyond the end, the first such, and not the start if that fails
@@ -160,11 +160,11 @@ module _ (p q : ℕ → Bool) where
       go false false e so later = simp e (ap suc later)
 
 -- the part of a line before its comment
-pub bare-line : (s : List ℕ) → bare (before is-lf s) ≡ before (λ c. is-lf c || is-hash c) s
+pub bare-line : (s : List ℕ) → bare (before is-lf s) ≡ before ends-bare s
 bare-line s = before-both is-lf is-hash s
 
 pub line-beyond : (s : List ℕ)
-    → passed-over is-lf s ≡ passed-over (λ c. is-lf c || is-hash c) s + passed-over is-lf (drop (passed-over (λ c. is-lf c || is-hash c) s) s)
+    → passed-over is-lf s ≡ passed-over ends-bare s + passed-over is-lf (drop (passed-over ends-bare s) s)
 line-beyond s = over-both is-lf is-hash s
 
 -- ---- words

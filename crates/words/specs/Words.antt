@@ -46,9 +46,12 @@ is-hash c = eqb c 35
 abbrev pub bare : List ℕ → List ℕ
 bare l = before is-hash l
 
--- where a word ends in a text of many lines: at a blank, at its line's end, or where the comment begins
+-- where that part of a line ends in a text of many lines, and where a word of it does
+abbrev pub ends-bare : ℕ → Bool
+ends-bare c = is-lf c || is-hash c
+
 abbrev pub ends-word : ℕ → Bool
-ends-word c = is-blank c || (is-lf c || is-hash c)
+ends-word c = is-blank c || ends-bare c
 
 -- a number: decimal digits, as many as you like, at least one
 abbrev pub is-digit : ℕ → Bool
