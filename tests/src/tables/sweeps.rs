@@ -153,35 +153,28 @@ pub fn damaged_tables(trial: &mut Trial) -> Outcome {
         let text = good_text(&mut random, n, few);
         // The more inputs, the slower the reference: a part of the damage has to do.
         let signs = if n <= 5 { SIGNS.len() } else { 3 };
-        damaged(trial, &mut random, &text, 1, signs)?;
+        damaged(trial, &mut random, &text, signs)?;
     }
     Ok(())
 }
 
-/// Tables of full lists, damaged here and there.
+/// Tables of full lists, likewise.
 pub fn damaged_full_tables(trial: &mut Trial) -> Outcome {
     let mut random = Random::new(602);
     for n in 1..=8 {
         let f = full_function(&mut random, n);
         let lines = good(&mut random, &f);
         let (text, _) = set(&mut random, &lines);
-        let step = if n <= 5 { 7 } else { 31 };
-        damaged(trial, &mut random, &text, step, 2)?;
+        damaged(trial, &mut random, &text, 2)?;
     }
     Ok(())
 }
 
 /// A text as it is, cut at each length, and with each byte replaced by so many signs,
-/// taken out and doubled; or, with a step, only at some places.
-fn damaged(
-    trial: &mut Trial,
-    random: &mut Random,
-    text: &[u8],
-    step: usize,
-    signs: usize,
-) -> Outcome {
+/// taken out and doubled.
+fn damaged(trial: &mut Trial, random: &mut Random, text: &[u8], signs: usize) -> Outcome {
     trial.read(text)?;
-    for at in (0..text.len()).step_by(step) {
+    for at in 0..text.len() {
         // The rest of the text still follows the cut one in memory.
         trial.read(&text[..at])?;
         let first = random.below(SIGNS.len());
