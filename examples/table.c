@@ -28,8 +28,8 @@ static uint64_t read(const char *text, uint8_t *record, size_t room)
 
 static void print_answer(uint64_t answer)
 {
-    printf("%u %u %u %" PRIu64 "\n", zap_code(answer), zap_kind(answer), zap_record(answer),
-           zap_place(answer));
+    printf("%u %u %u %" PRIu64 " %u\n", zap_code(answer), zap_kind(answer), zap_record(answer),
+           zap_place(answer), zap_pattern(answer));
 }
 
 int main(void)

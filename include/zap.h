@@ -74,19 +74,23 @@ uint64_t zap_read_table(const uint8_t *text, size_t text_len, uint8_t *out, size
 uint64_t zap_write_table(const uint8_t *record, size_t record_len, uint8_t *out, size_t out_len);
 
 /*
- * Each answer is one number: code + 256 kind + 65,536 record + 16,777,216 place.
+ * Each answer is one number: code + 256 kind + 65,536 record + 16,777,216 place +
+ * 2^56 pattern.
  *
  * Accepted: code 0, record 0, and the place is the length of what was written, else of
  * the claim, else of the record read.
  * Refused: kind 0, and record and place say where the fault is. Places count from 0,
- * the lines of a table from 1. A place has 40 bits; only the length that code 19 tells
+ * the lines of a table from 1. A place has 32 bits; only the length that code 19 tells
  * and the line of a table could need more, and are then told as the largest that fits,
- * 1,099,511,627,775.
+ * 4,294,967,295.
+ * The pattern has the top eight bits: bit i is the value of input i. Only codes 7 and 14
+ * have one; in every other answer, an accepted one too, it is 0.
  */
 static inline unsigned zap_code(uint64_t answer) { return (unsigned)(answer & 255); }
 static inline unsigned zap_kind(uint64_t answer) { return (unsigned)((answer >> 8) & 255); }
 static inline unsigned zap_record(uint64_t answer) { return (unsigned)((answer >> 16) & 255); }
-static inline uint64_t zap_place(uint64_t answer) { return answer >> 24; }
+static inline uint64_t zap_place(uint64_t answer) { return (answer >> 24) & 4294967295u; }
+static inline unsigned zap_pattern(uint64_t answer) { return (unsigned)(answer >> 56); }
 
 enum zap_kinds {
     ZAP_REFUSED = 0,
@@ -114,7 +118,8 @@ enum zap_codes {
     ZAP_BEYOND_N = 5,        /* a cube names an input at or above n: first byte of the cube */
     ZAP_IN_BOTH_MASKS = 6,   /* a cube has an input in both masks: first byte of the cube */
     ZAP_ON_AND_OFF = 7,      /* an on cube and an off cube of one function share a pattern:
-                                first byte of the first such on cube */
+                                first byte of the first such on cube; pattern: the smallest
+                                that it shares with any off cube */
     ZAP_BYTES_FOLLOW = 8,    /* bytes follow the end: the first of them */
 
     /* The two functions. */
@@ -125,7 +130,8 @@ enum zap_codes {
     ZAP_BAD_Q = 11,          /* q is neither 0 nor 1: 3 */
     ZAP_BAD_CHOICE = 12,     /* a wiring byte outside 0..n-1 and 16..16+n-1: that byte */
     ZAP_USED_TWICE = 13,     /* an input of g used twice: the second such byte */
-    ZAP_NOT_AGREEING = 14,   /* the wiring does not agree: 0 */
+    ZAP_NOT_AGREEING = 14,   /* the wiring does not agree: 0; pattern: the smallest of g at
+                                which the functions disagree */
     ZAP_BAD_NODE = 15,       /* a node's first byte not 0, 1 or FF, or a cube index beyond its
                                 list: that byte */
     ZAP_SPLIT_AT_N = 16,     /* a split at depth n: that byte */

@@ -6,14 +6,30 @@ use crate::plain;
 use crate::plain::function::Cube;
 use crate::plain::wiring::Wiring;
 
-/// Two functions and a claim about them, for the checker.
-pub struct Claim {
+/// Several claims, for the checker.
+pub struct Claims {
     pub name: String,
+    pub claims: Vec<Claim>,
+    /// How often they are run for one time taken.
+    pub times: u32,
+}
+
+/// Two functions and a claim about them.
+#[derive(Clone)]
+pub struct Claim {
     pub f: Vec<u8>,
     pub g: Vec<u8>,
     pub claim: Vec<u8>,
-    /// How often it is run for one time taken.
-    pub times: u32,
+}
+
+impl Claims {
+    /// The same claims, each changed.
+    fn with(&self, what: &str, change: impl Fn(&mut Claim)) -> Claims {
+        let name = format!("{}, {what}", self.name);
+        let mut claims = self.claims.clone();
+        claims.iter_mut().for_each(change);
+        Claims { name, claims, times: self.times }
+    }
 }
 
 /// Several pairs of functions, for the matcher.
@@ -31,10 +47,15 @@ pub struct Pair {
 }
 
 /// What is timed.
-pub fn large_claims() -> Vec<Claim> {
+pub fn large_claims() -> Vec<Claims> {
     let deepest = Make { n: 7, cubes: 16, literals: 4, tree: Tree::Deepest };
     let own = Make { n: 6, cubes: 6, literals: 4, tree: Tree::Own };
-    vec![deepest.refusal(1), own.refusal(10), matching(8, 64, 4, 1_000)]
+    vec![
+        deepest.refusal(1),
+        own.refusal(10),
+        matching(8, 64, 4, 1_000),
+        disagreeing(8, 64, 4, 16, 100),
+    ]
 }
 
 pub fn large_pairs() -> Vec<Pairs> {
@@ -48,8 +69,9 @@ pub fn large_pairs() -> Vec<Pairs> {
     ]
 }
 
-/// Small ones of every sort, whole, cut and with a byte changed.
-pub fn small_claims() -> Vec<Claim> {
+/// Small ones of every sort, whole, cut and with a byte changed; and those with the
+/// functions' lists made to meet.
+pub fn small_claims() -> Vec<Claims> {
     let mut claims = vec![];
     // Enough cubes that no wiring fits at one of the first seeds.
     for (n, cubes, literals) in [(3, 3, 2), (4, 8, 3), (5, 10, 3)] {
@@ -57,27 +79,37 @@ pub fn small_claims() -> Vec<Claim> {
             claims.push(Make { n, cubes, literals, tree }.refusal(1));
         }
         claims.push(matching(n, cubes, literals, 1));
+        claims.push(disagreeing(n, cubes, literals, 8, 1));
     }
-    claims.into_iter().flat_map(damaged).collect()
+    claims.push(disagreeing(8, 64, 4, 16, 1));
+    let clashing: Vec<Claims> = claims.iter().flat_map(clashing).collect();
+    claims.into_iter().flat_map(damaged).chain(clashing).collect()
 }
 
 pub fn small_pairs() -> Vec<Pairs> {
     vec![pairs(3, 2, 2, 20), pairs(4, 4, 3, 20), pairs(5, 6, 3, 10), pairs(6, 6, 3, 2)]
 }
 
-/// The claim, and the same cut or changed at the last byte.
-fn damaged(input: Claim) -> [Claim; 3] {
-    let other = |what: &str, claim: Vec<u8>| Claim {
-        name: format!("{}, {what}", input.name),
-        f: input.f.clone(),
-        g: input.g.clone(),
-        claim,
-        times: input.times,
-    };
-    let (&last, start) = input.claim.split_last().expect("a claim has bytes");
-    let cut = other("cut", start.to_vec());
-    let changed = other("changed", [start, &[last ^ 1]].concat());
+/// The claims, and the same cut or changed at the last byte.
+fn damaged(input: Claims) -> [Claims; 3] {
+    let cut = input.with("cut", |claim| claim.claim.truncate(claim.claim.len() - 1));
+    let changed = input.with("changed", |claim| {
+        *claim.claim.last_mut().expect("a claim has bytes") ^= 1;
+    });
     [input, cut, changed]
+}
+
+/// The claims with an off cube in the place of the last on cube, of f and then of g.
+fn clashing(input: &Claims) -> [Claims; 2] {
+    let clash = |record: &mut [u8]| {
+        let [on, off] = [3, 4].map(|place| record[place] as usize);
+        let middle = 5 + 2 * (on + off / 2);
+        record.copy_within(middle..middle + 2, 5 + 2 * (on - 1));
+    };
+    [
+        input.with("f's lists meet", |claim| clash(&mut claim.f)),
+        input.with("g's lists meet", |claim| clash(&mut claim.g)),
+    ]
 }
 
 // ---- Pairs ----
@@ -120,7 +152,7 @@ struct Make {
 }
 
 impl Make {
-    fn refusal(self, times: u32) -> Claim {
+    fn refusal(self, times: u32) -> Claims {
         let Make { n, cubes, literals, tree } = self;
         let how = match tree {
             Tree::Own => "the matcher's own tree",
@@ -133,7 +165,8 @@ impl Make {
             let f = function(&mut random, n, cubes, literals);
             let g = function(&mut random, n, cubes, literals);
             if let Some(claim) = self.claim(&mut random, &f, &g) {
-                return Claim { name, f: record(&f), g: record(&g), claim, times };
+                let claim = Claim { f: record(&f), g: record(&g), claim };
+                return Claims { name, claims: vec![claim], times };
             }
         }
         unreachable!("there are seeds enough")
@@ -191,17 +224,69 @@ impl Make {
 // ---- Matches ----
 
 /// A function and itself, straight.
-fn matching(n: u8, cubes: usize, literals: u8, times: u32) -> Claim {
+fn matching(n: u8, cubes: usize, literals: u8, times: u32) -> Claims {
     let f = record(&function(&mut Random(1), n, cubes, literals));
     let mut claim = vec![0x4D, 0x54, n, 0];
     claim.extend(0..n);
-    Claim {
-        name: format!("n {n}, {cubes} + {cubes} cubes, a match"),
-        g: f.clone(),
-        f,
-        claim,
-        times,
+    let name = format!("n {n}, {cubes} + {cubes} cubes, a match");
+    Claims { name, claims: vec![Claim { g: f.clone(), f, claim }], times }
+}
+
+/// So many match claims of a function to its copy under a wiring, with one thing wrong
+/// in the wiring: two inputs changed places, or an inversion. So only some pairs share a
+/// pattern. The first of them does not have the smallest, and that is not 0.
+fn disagreeing(n: u8, cubes: usize, literals: u8, count: usize, times: u32) -> Claims {
+    let claim = |seed| {
+        let mut random = Random(seed);
+        let f = function(&mut random, n, cubes, literals);
+        let (q, wiring) = any_wiring(&mut random, n);
+        let carried = |list: &[Cube]| list.iter().map(|&cube| wiring.carry(cube)).collect();
+        let (on, off) = (carried(&f.on), carried(&f.off));
+        let g = if q == 0 { Function { n, on, off } } else { Function { n, on: off, off: on } };
+
+        let mut claim = vec![0x4D, 0x54, n, q];
+        claim.extend(wiring.bytes());
+        let at = random.below(n.into());
+        match seed % 2 {
+            0 => claim[4 + at] ^= 0x10,
+            _ => claim[4..].swap(at, (at + 1) % usize::from(n)),
+        }
+        let shared = shared(&f, &g, &claim);
+        let smallest = shared.iter().min();
+        let fits = smallest > Some(&0) && shared.first() > smallest;
+        fits.then(|| Claim { f: record(&f), g: record(&g), claim })
+    };
+    let name = format!("n {n}, {cubes} + {cubes} cubes, {count} wrong wirings");
+    Claims { name, claims: (1..).filter_map(claim).take(count).collect(), times }
+}
+
+/// q, and the inputs.
+fn any_wiring(random: &mut Random, n: u8) -> (u8, Wiring) {
+    let mut wiring = Wiring::new(n);
+    while !wiring.is_whole() {
+        let free: Vec<u8> = wiring.free().collect();
+        wiring = wiring.place(free[random.below(free.len())], random.below(2) == 1);
     }
+    (random.below(2) as u8, wiring)
+}
+
+/// Of each pair that is to be kept apart and is not, the smallest pattern, in order.
+fn shared(f: &Function, g: &Function, claim: &[u8]) -> Vec<u8> {
+    let wiring = claim[4..]
+        .iter()
+        .fold(Wiring::new(f.n), |wiring, byte| wiring.place(byte & 0x0F, byte & 0x10 != 0));
+    let kept_apart = match claim[3] {
+        0 => [(&f.on, &g.off), (&f.off, &g.on)],
+        _ => [(&f.on, &g.on), (&f.off, &g.off)],
+    };
+    let mut shared = vec![];
+    for (of_f, of_g) in kept_apart {
+        for one in of_f.iter().map(|&one| wiring.carry(one)) {
+            let sharing = of_g.iter().filter(|&&other| !one.apart(other));
+            shared.extend(sharing.map(|other| one.p | other.p));
+        }
+    }
+    shared
 }
 
 // ---- Functions ----

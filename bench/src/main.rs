@@ -22,7 +22,7 @@ use std::env;
 use std::process::ExitCode;
 
 use inputs::tables::{large_tables, small_tables, Call, Input, Tables};
-use inputs::{Claim, Pair, Pairs};
+use inputs::{Claim, Claims, Pair, Pairs};
 use table::{Row, Side, Table};
 use zap_calls as calls;
 
@@ -55,18 +55,20 @@ fn main() -> ExitCode {
     }
 }
 
-/// The checker's rows: one for each claim.
-fn checker(claims: Vec<Claim>) -> Table {
-    let row = |input: Claim| {
-        let Claim { name, f, g, claim, times } = input;
+/// The checker's rows: one for each claim, or for several that are alike.
+fn checker(inputs: Vec<Claims>) -> Table {
+    let row = |input: Claims| {
+        let Claims { name, claims, times } = input;
         let side = |check: fn(&[u8], &[u8], &[u8]) -> u64| -> Side {
-            let (f, g, claim) = (f.clone(), g.clone(), claim.clone());
-            Box::new(move |_| check(&f, &g, &claim))
+            let claims = claims.clone();
+            let one = move |Claim { f, g, claim }: &Claim, _: &mut [u8]| check(f, g, claim);
+            Box::new(move |out| each(&claims, |_| 0, one, out))
         };
         let (ours, plain) = (side(calls::check), side(plain::check));
-        Row { name: format!("check, {name}"), amount: claim.len(), room: 0, times, ours, plain }
+        let amount = claims.iter().map(|claim| claim.claim.len()).sum();
+        Row { name: format!("check, {name}"), amount, room: 0, times, ours, plain }
     };
-    Table { unit: "bytes", rows: claims.into_iter().map(row).collect() }
+    Table { unit: "bytes", rows: inputs.into_iter().map(row).collect() }
 }
 
 /// The matcher's rows: one for several pairs of functions.

@@ -14,13 +14,14 @@ pub const LONGEST_RECORD: usize = 261;
 /// No table that `write_table` writes is longer: 8 inputs, 128 terms.
 pub const LONGEST_TABLE: usize = 1_437;
 
-/// The four numbers of an answer.
+/// The five numbers of an answer.
 #[derive(Clone, Copy, Debug, PartialEq, Eq)]
 pub struct Answer {
     pub code: u64,
     pub kind: u64,
     pub record: u64,
     pub place: u64,
+    pub pattern: u64,
 }
 
 impl Answer {
@@ -30,7 +31,8 @@ impl Answer {
             code: packed & 255,
             kind: packed >> 8 & 255,
             record: packed >> 16 & 255,
-            place: packed >> 24,
+            place: packed >> 24 & 0xFFFF_FFFF,
+            pattern: packed >> 56,
         }
     }
 }

@@ -3,7 +3,8 @@
 //! Nothing here judges a claim. What the archive accepts is shown whole, what it
 //! refuses up to the place that it names.
 
-use crate::function::{Cube, Function};
+use crate::function::{values, Cube, Function, Value};
+use crate::json::Object;
 use crate::words::{count, number};
 
 /// Which input of g serves an input of f.
@@ -54,6 +55,14 @@ impl Wiring {
         self.choices.iter().enumerate().map(|(i, choice)| bit(choice) << i).sum()
     }
 
+    /// Both functions where g has this pattern.
+    pub fn both(&self, f: &Function, g: &Function, y: usize) -> Both {
+        let x = self.read(y);
+        let value = f.value(x);
+        let asked = if self.q == 1 { value.inverted() } else { value };
+        Both { n: g.n, y, x, f: value, asked, g: g.value(y) }
+    }
+
     /// A wire for each input, and one for the output.
     pub fn picture(&self) -> Vec<String> {
         let wire = |from: &str, to: &str, inverted| {
@@ -76,6 +85,52 @@ impl Wiring {
             words.push("output inverted".to_string());
         }
         words.join(", ")
+    }
+}
+
+/// Two functions at a pattern of g, and at that of f where the wiring reads it.
+pub struct Both {
+    n: usize,
+    pub y: usize,
+    pub x: usize,
+    pub f: Value,
+    /// What f asks of g: its own value, inverted if q = 1.
+    pub asked: Value,
+    pub g: Value,
+}
+
+impl Both {
+    pub fn are_specified(&self) -> bool {
+        self.f != Value::Open && self.g != Value::Open
+    }
+
+    pub fn disagree(&self) -> bool {
+        self.are_specified() && self.asked != self.g
+    }
+
+    /// Where they disagree, and what is wrong there.
+    pub fn disagreement(&self) -> [String; 3] {
+        let Both { n, y, x, f, g, .. } = *self;
+        // Two that disagree are the same only where one of them is inverted.
+        let wrong = if f == g {
+            format!("both are {}; with the output inverted they should differ", f.word())
+        } else {
+            let (f, g) = (f.word(), g.word());
+            format!("f is {f} and g is {g}; with the output plain they should be alike")
+        };
+        [
+            format!("g's inputs {}: pattern {y} of g", values(y, n)),
+            format!("f's inputs {} through the wiring: pattern {x} of f", values(x, n)),
+            format!("there {wrong}"),
+        ]
+    }
+
+    pub fn object(&self) -> String {
+        let object = Object::inner().number("g_at", self.y).number("f_at", self.x);
+        let values = [("f", self.f), ("asks", self.asked), ("g", self.g)];
+        let with =
+            |o: Object, (name, value): (&str, Value)| o.text(name, &value.sign().to_string());
+        values.into_iter().fold(object, with).end()
     }
 }
 
@@ -287,4 +342,77 @@ impl Pair {
 /// `12 nodes below, 10 of them closings`.
 pub fn below_words((nodes, closings): (usize, usize)) -> String {
     format!("{} below, {} of them closings", count(nodes, "node"), number(closings))
+}
+
+#[cfg(test)]
+mod tests {
+    use super::*;
+    use crate::function::lists;
+
+    fn function(record: &[u8]) -> Function {
+        let [on, off] = lists(record);
+        let n = record[2] as usize;
+        Function { n, on, off, on_patterns: 0, off_patterns: 0, in_use: 0 }
+    }
+
+    /// The one pattern of g at which they disagree.
+    fn only(f: &[u8], g: &[u8], claim: &[u8]) -> Both {
+        let [f, g] = [f, g].map(function);
+        let all = (0..g.patterns()).map(|y| Wiring::of(claim).both(&f, &g, y));
+        let mut all: Vec<Both> = all.filter(Both::disagree).collect();
+        assert_eq!(all.len(), 1);
+        all.remove(0)
+    }
+
+    /// A multiplexor: x0 while x2 is 0, x1 while x2 is 1.
+    const MUX: &[u8] = &[0x46, 0x4E, 3, 2, 2, 1, 4, 6, 0, 0, 5, 4, 2];
+
+    /// x0 is y2, x1 is y0, x2 is y1. At y = 6, y1 and y2 are 1, so x0 and x2 are, and x = 5:
+    /// there x2 selects x1, which is 0, so f is off. g, y0·y1 or y2, is on. By the table of
+    /// FORMATS.md, section 4, they agree at the others.
+    #[test]
+    fn a_disagreement_with_the_output_plain() {
+        let and_or = [0x46, 0x4E, 3, 2, 2, 3, 0, 4, 0, 0, 5, 0, 6];
+        let both = only(MUX, &and_or, &[0x4D, 0x54, 3, 0, 2, 0, 1]);
+        assert_eq!(
+            both.disagreement(),
+            [
+                "g's inputs x0 = 0, x1 = 1, x2 = 1: pattern 6 of g",
+                "f's inputs x0 = 1, x1 = 0, x2 = 1 through the wiring: pattern 5 of f",
+                "there f is off and g is on; with the output plain they should be alike",
+            ]
+        );
+        assert_eq!(both.object(), r#"{"g_at":6,"f_at":5,"f":"0","asks":"0","g":"1"}"#);
+    }
+
+    /// g is that of above, inverted, and so is its y1: off for y0·y1' and for y2. x2 is y1
+    /// inverted. At y = 4 y2 alone is 1, so that x0 and x2 are, and x = 5.
+    #[test]
+    fn a_disagreement_with_the_output_inverted() {
+        let g = [0x46, 0x4E, 3, 2, 2, 0, 5, 2, 4, 1, 2, 4, 0];
+        let both = only(MUX, &g, &[0x4D, 0x54, 3, 1, 2, 0, 0x11]);
+        assert_eq!(
+            both.disagreement(),
+            [
+                "g's inputs x0 = 0, x1 = 0, x2 = 1: pattern 4 of g",
+                "f's inputs x0 = 1, x1 = 0, x2 = 1 through the wiring: pattern 5 of f",
+                "there both are off; with the output inverted they should differ",
+            ]
+        );
+        assert_eq!(both.object(), r#"{"g_at":4,"f_at":5,"f":"0","asks":"1","g":"0"}"#);
+    }
+
+    /// Where one of them is open they agree.
+    #[test]
+    fn no_disagreement_where_one_is_open() {
+        let [wire, open] = [&[0x46, 0x4E, 1, 1, 1, 1, 0, 0, 1][..], &[0x46, 0x4E, 1, 0, 0]];
+        let [wire, open] = [wire, open].map(function);
+        for q in 0..2 {
+            let wiring = Wiring::of(&[0x4D, 0x54, 1, q, 0]);
+            for y in 0..2 {
+                assert!(!wiring.both(&wire, &open, y).disagree());
+                assert!(!wiring.both(&open, &wire, y).disagree());
+            }
+        }
+    }
 }

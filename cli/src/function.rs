@@ -55,6 +55,14 @@ impl Value {
         }
     }
 
+    pub fn word(self) -> &'static str {
+        match self {
+            Value::On => "on",
+            Value::Off => "off",
+            Value::Open => "open",
+        }
+    }
+
     pub fn inverted(self) -> Value {
         match self {
             Value::On => Value::Off,
@@ -91,18 +99,10 @@ impl Function {
         if answer.code != 0 {
             return (answer, None);
         }
-        let cubes: Vec<Cube> =
-            record[5..].chunks_exact(2).map(|cube| Cube { pos: cube[0], neg: cube[1] }).collect();
-        let (on, off) = cubes.split_at(record[3] as usize);
+        let [on, off] = lists(record);
         let [on_patterns, off_patterns, in_use] = figures.map(|figure| figure as usize);
-        let function = Function {
-            n: record[2] as usize,
-            on: on.to_vec(),
-            off: off.to_vec(),
-            on_patterns,
-            off_patterns,
-            in_use,
-        };
+        let n = record[2] as usize;
+        let function = Function { n, on, off, on_patterns, off_patterns, in_use };
         (answer, Some(function))
     }
 
@@ -134,6 +134,34 @@ impl Function {
     }
 }
 
+/// The on cubes and the off cubes of a record whose counts and length are right.
+pub fn lists(record: &[u8]) -> [Vec<Cube>; 2] {
+    let cubes: Vec<Cube> =
+        record[5..].chunks_exact(2).map(|cube| Cube { pos: cube[0], neg: cube[1] }).collect();
+    let (on, off) = cubes.split_at(record[3] as usize);
+    [on.to_vec(), off.to_vec()]
+}
+
+/// The two cubes that a refusal with code 7 is about, by their numbers: the on cube at its
+/// place in the record, and the first off cube that holds its pattern.
+pub fn clash(answer: Answer, on: &[Cube], off: &[Cube]) -> Option<[usize; 2]> {
+    let holds = |cube: &Cube| cube.holds(answer.pattern as usize);
+    let at = (answer.place as usize).checked_sub(5)? / 2;
+    on.get(at).filter(|cube| holds(cube))?;
+    Some([at, off.iter().position(holds)?])
+}
+
+/// What they do: `share pattern 3: x0 = 1, x1 = 1`.
+pub fn share(answer: Answer, n: usize) -> String {
+    format!("share pattern {}: {}", answer.pattern, values(answer.pattern as usize, n))
+}
+
+/// A pattern's values by input: pattern 6 of three inputs is `x0 = 0, x1 = 1, x2 = 1`.
+pub fn values(pattern: usize, n: usize) -> String {
+    let value = |i| format!("x{i} = {}", pattern >> i & 1);
+    (0..n).map(value).collect::<Vec<_>>().join(", ")
+}
+
 /// A pattern's values from the highest input down: pattern 6 of three inputs is 110.
 pub fn bits(pattern: usize, n: usize) -> String {
     (0..n).rev().map(|i| if pattern >> i & 1 == 1 { '1' } else { '0' }).collect()
@@ -150,9 +178,26 @@ mod tests {
         assert_eq!(product(0, 0), "1");
     }
 
+    /// x0 shares nothing with x0', pattern 3 with x0·x1, and the smaller 1 with x1'.
+    #[test]
+    fn cubes_that_share_a_pattern() {
+        let [x0, not_0, x1, not_1] =
+            [(1, 0), (0, 1), (2, 0), (0, 2)].map(|(pos, neg)| Cube { pos, neg });
+        let both = Cube { pos: 3, neg: 0 };
+        let answer = Answer { code: 7, kind: 0, record: 1, place: 7, pattern: 1 };
+        assert_eq!(clash(answer, &[x1, x0], &[not_0, both, not_1]), Some([1, 2]));
+        assert_eq!(share(answer, 2), "share pattern 1: x0 = 1, x1 = 0");
+        // Nothing is made up where the cubes do not say so.
+        assert_eq!(clash(answer, &[x1, x0], &[not_0, both]), None);
+        assert_eq!(clash(answer, &[x0, x1], &[not_1]), None);
+        assert_eq!(clash(answer, &[x0], &[not_1]), None);
+    }
+
     #[test]
     fn patterns_of_bits() {
         assert_eq!(bits(6, 3), "110");
         assert_eq!(bits(0, 1), "0");
+        assert_eq!(values(6, 3), "x0 = 0, x1 = 1, x2 = 1");
+        assert_eq!(values(0, 1), "x0 = 0");
     }
 }

@@ -48,8 +48,14 @@ impl Object {
 
     /// The numbers of an answer.
     pub fn answer(self, answer: Answer) -> Object {
-        let Answer { code, kind, record, place } = answer;
-        let numbers = [("code", code), ("kind", kind), ("record", record), ("place", place)];
+        let Answer { code, kind, record, place, pattern } = answer;
+        let numbers = [
+            ("code", code),
+            ("kind", kind),
+            ("record", record),
+            ("place", place),
+            ("pattern", pattern),
+        ];
         numbers.iter().fold(self, |object, (name, value)| object.raw(name, &value.to_string()))
     }
 

@@ -2,7 +2,8 @@
 
 use zap_calls::Answer;
 
-use crate::function::Function;
+use crate::claim::{Both, Wiring};
+use crate::function::{clash, lists, share, Function};
 use crate::input::{marked_as, Form, Taken};
 use crate::json::Object;
 use crate::output::{Colour, Out};
@@ -65,25 +66,65 @@ fn given(answer: Answer, of: &str) -> String {
     format!("{} (code {}){}", words::of_code(answer.code), answer.code, place(answer, of))
 }
 
-/// Files that were named in another order than they are asked for.
+/// What more can be told of some faults.
 fn hint(answer: Answer, taken: &Taken) -> Option<String> {
-    let what = marked_as(&taken.bytes).filter(|_| answer.code == 2)?;
-    Some(format!("; these are the bytes of {what}"))
+    match answer.code {
+        // Files that were named in another order than they are asked for.
+        2 => Some(format!("; these are the bytes of {}", marked_as(&taken.bytes)?)),
+        7 => {
+            let [u, v] = clash_of(answer, taken)?;
+            let [on, off] = lists(&taken.bytes);
+            let (on, off) = (on[u].product(), off[v].product());
+            let share = share(answer, taken.bytes[2] as usize);
+            Some(format!("; on cube {u}, {on}, and off cube {v}, {off}, {share}"))
+        }
+        _ => None,
+    }
+}
+
+/// Of a function that is refused with code 7, the numbers of the on cube and the off cube.
+fn clash_of(answer: Answer, taken: &Taken) -> Option<[usize; 2]> {
+    if answer.code != 7 {
+        return None;
+    }
+    match &taken.refused {
+        Some(table) => table.clash(),
+        None => {
+            let [on, off] = lists(&taken.bytes);
+            clash(answer, &on, &off)
+        }
+    }
+}
+
+/// Of a claim that is refused with code 14, the functions where they disagree.
+fn disagreement(answer: Answer, parts: &[&Taken]) -> Option<Both> {
+    let [f, g, claim] = parts else { return None };
+    if answer.code != 14 {
+        return None;
+    }
+    let (f, g) = (Function::of(f).1?, Function::of(g).1?);
+    let both = Wiring::of(&claim.bytes).both(&f, &g, answer.pattern as usize);
+    Some(both).filter(Both::disagree)
 }
 
 fn place(answer: Answer, of: &str) -> String {
     let at = number(answer.place as usize);
     match answer.code {
         1 => format!(", after {}", words::count(answer.place as usize, "byte")),
-        14 => String::new(),
+        14 => format!(", first at pattern {} of g", answer.pattern),
         _ => format!(", at byte {at}{of}"),
     }
 }
 
-/// The refusal for a person: the sentence, the dump or the lines, the numbers.
+/// The refusal for a person: the sentence, the dump or the lines, or where the functions
+/// disagree, the numbers.
 pub fn show(out: &mut Out, answer: Answer, parts: &[&Taken]) {
     let word = out.paint(Colour::Bad, "refused");
     out.line(&format!("{word}: {}", sentence(answer, parts)));
+    if let Some(both) = disagreement(answer, parts) {
+        out.line("");
+        both.disagreement().iter().for_each(|line| out.line(&format!("  {line}")));
+    }
     if let Some(taken) = at_fault(answer, parts).filter(|_| answer.code != 14) {
         out.line("");
         match &taken.refused {
@@ -144,8 +185,9 @@ fn dump(out: &mut Out, bytes: &[u8], place: usize, length: usize) {
 
 /// The answer's own numbers.
 pub fn numbers(out: &mut Out, answer: Answer) {
-    let Answer { code, kind, record, place } = answer;
-    out.line(&format!("code {code}, kind {kind}, record {record}, place {place}"));
+    let Answer { code, kind, record, place, pattern } = answer;
+    let line = format!("code {code}, kind {kind}, record {record}, place {place}");
+    out.line(&format!("{line}, pattern {pattern}"));
 }
 
 /// A plain dump, as refusals that fit a screen are shown.
@@ -161,6 +203,14 @@ pub fn object(object: Object, answer: Answer, parts: &[&Taken]) -> Object {
     let object = object.text("words", words::of_code(answer.code));
     let Some(taken) = at_fault(answer, parts) else { return object };
     let object = object.text("taken_for", taken.form.name());
+    let object = match disagreement(answer, parts) {
+        Some(both) => object.raw("disagreement", &both.object()),
+        None => object,
+    };
+    let object = match clash_of(answer, taken) {
+        Some([on, off]) => object.number("on_cube", on).number("off_cube", off),
+        None => object,
+    };
     let Some(table) = &taken.refused else { return object };
     let fault = table.fault();
     let numbers = fault.shown.iter().map(|line| line.number.to_string());

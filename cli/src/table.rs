@@ -7,7 +7,7 @@ use std::ops::Range;
 
 use zap_calls::{Answer, LONGEST_RECORD};
 
-use crate::function::Cube;
+use crate::function::{self, Cube};
 use crate::output::{Colour, Out};
 use crate::words::{self, count, nearest, number};
 
@@ -47,9 +47,14 @@ impl Refused {
         match self.answer.code {
             20 | 21 | 3 | 22 => of_line(&lines, self.answer),
             4 => too_many(&lines, place),
-            7 => clash(&lines, place),
+            7 => clash(&lines, self.answer),
             code => Fault { words: words::of_code(code).to_string(), shown: vec![] },
         }
+    }
+
+    /// 7: the numbers of the two cubes in the record that it would give.
+    pub fn clash(&self) -> Option<[usize; 2]> {
+        Before::of(&lines(&self.text)).clash(self.answer)
     }
 
     /// `3 inputs expected, 2 found (code 20), at line 7`.
@@ -227,6 +232,11 @@ impl<'a> Before<'a> {
 
     fn with_output(&self, output: u8) -> impl Iterator<Item = &Term> {
         self.terms.iter().filter(move |term| term.output == output)
+    }
+
+    fn clash(&self, answer: Answer) -> Option<[usize; 2]> {
+        let cubes = |output| self.with_output(output).map(|term| term.cube).collect::<Vec<Cube>>();
+        function::clash(answer, &cubes(b'1'), &cubes(b'0'))
     }
 }
 
@@ -407,31 +417,19 @@ fn too_many(lines: &[Line], place: usize) -> Fault {
     Fault { words, shown: numbers.get(64).map(|&number| unmarked(number)).into_iter().collect() }
 }
 
-/// 7: by its place, the on cube; the first off cube that it shares a pattern with.
-fn clash(lines: &[Line], place: usize) -> Fault {
+/// 7: the lines of the two cubes, and the pattern that they share.
+fn clash(lines: &[Line], answer: Answer) -> Fault {
     let before = Before::of(lines);
-    let pair = before.with_output(b'1').nth(place.saturating_sub(5) / 2).and_then(|on| {
-        let off = before.with_output(b'0').find_map(|off| Some((off, shared(on.cube, off.cube)?)));
-        off.map(|(off, pattern)| (on.number, off.number, pattern))
-    });
-    let Some((on, off, pattern)) = pair else {
+    let line = |output, at| before.with_output(output).nth(at).map(|term| term.number);
+    let lines = before.clash(answer).and_then(|[u, v]| Some([line(b'1', u)?, line(b'0', v)?]));
+    let Some(mut shown) = lines else {
         return Fault { words: words::of_code(7).to_string(), shown: vec![] };
     };
-    let inputs: String = (0..before.n).map(|i| char::from(b'0' + (pattern >> i & 1))).collect();
-    let words = format!(
-        "the terms at line {} (on) and line {} (off) share a pattern: inputs {inputs}",
-        number(on),
-        number(off)
-    );
-    let mut shown = [on, off];
+    let [on, off] = shown.map(number);
+    let share = function::share(answer, before.n);
+    let words = format!("the terms at line {on} (on) and line {off} (off) {share}");
     shown.sort();
     Fault { words, shown: shown.map(unmarked).into() }
-}
-
-/// The smallest pattern that two cubes share.
-fn shared(one: Cube, other: Cube) -> Option<u8> {
-    let (pos, neg) = (one.pos | other.pos, one.neg | other.neg);
-    (pos & neg == 0).then_some(pos)
 }
 
 // ---- Shown ----
@@ -611,8 +609,23 @@ mod tests {
         let many = format!("{THREE}{}{}.e", "1-- 0\n".repeat(3), "0-- 1\n".repeat(70));
         let words = "more than 64 terms with output 1: 70 found (a record has room for 64)";
         expect(&many, 4, 3, words);
-        let words = "the terms at line 6 (on) and line 4 (off) share a pattern: inputs 110";
+        let words =
+            "the terms at line 6 (on) and line 4 (off) share pattern 3: x0 = 1, x1 = 1, x2 = 0";
         expect(&format!("{THREE}1-0 0\n0-- 1\n-1- 1\n.e"), 7, 7, words);
+    }
+
+    /// On cube 0, x1, shares pattern 3 with off cube 0, x0·x1, and the smaller pattern 2 with
+    /// off cube 1, x1·x2'. So the answer names 2, and off cube 1 is the one to be told.
+    #[test]
+    fn the_off_term_that_holds_the_pattern() {
+        let answer = Answer { code: 7, kind: 0, record: 1, place: 5, pattern: 2 };
+        let text = format!("{THREE}11- 0\n-1- 1\n-10 0\n.e").into_bytes();
+        let refused = Refused { answer, text, no_hex: None };
+        let words =
+            "the terms at line 5 (on) and line 6 (off) share pattern 2: x0 = 0, x1 = 1, x2 = 0";
+        let shown = vec![unmarked(5), unmarked(6)];
+        assert_eq!(refused.fault(), Fault { words: words.to_string(), shown });
+        assert_eq!(refused.clash(), Some([0, 1]));
     }
 
     #[test]

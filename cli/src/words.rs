@@ -1,14 +1,22 @@
 //! Codes and numbers in words.
 
-/// A code: what it is given for, and what its place tells.
+/// A code: what it is given for, what its place tells, and its pattern where that is not
+/// always 0.
 pub struct Code {
     pub number: u64,
     pub words: &'static str,
     pub place: &'static str,
+    pub pattern: Option<&'static str>,
 }
 
 const fn code(number: u64, words: &'static str, place: &'static str) -> Code {
-    Code { number, words, place }
+    Code { number, words, place, pattern: None }
+}
+
+impl Code {
+    const fn pattern(self, pattern: &'static str) -> Code {
+        Code { pattern: Some(pattern), ..self }
+    }
 }
 
 /// Every code, in the words of include/zap.h.
@@ -23,14 +31,16 @@ pub const CODES: [Code; 22] = [
         7,
         "an on cube and an off cube of one function share a pattern",
         "first byte of the first such on cube",
-    ),
+    )
+    .pattern("the smallest that it shares with any off cube"),
     code(8, "bytes follow the end", "the first of them"),
     code(9, "f and g differ in n", "2, record 2"),
     code(10, "the claim's n is not theirs", "2"),
     code(11, "q is neither 0 nor 1", "3"),
     code(12, "a wiring byte outside 0..n-1 and 16..16+n-1", "that byte"),
     code(13, "an input of g used twice", "the second such byte"),
-    code(14, "the wiring does not agree", "0"),
+    code(14, "the wiring does not agree", "0")
+        .pattern("the smallest of g at which the functions disagree"),
     code(15, "a node's first byte not 0, 1 or FF, or a cube index beyond its list", "that byte"),
     code(16, "a split at depth n", "that byte"),
     code(17, "the named pair is not dead", "first byte of the node"),

@@ -1,7 +1,8 @@
 //! The small functions and cases that 01 names, with the numbers it gives.
 //!
 //! What a comment marks "by hand" is worked out from a rule of 01 that it names
-//! no case for. Nothing here was copied from an output.
+//! no case for. So is the pattern of each code 7 and 14: by writing out which patterns
+//! the cubes hold. Nothing here was copied from an output.
 
 use crate::reference::answer::Answer;
 use crate::reference::fault::{Owner, Part};
@@ -23,12 +24,13 @@ fn bytes(runs: &[Run]) -> Vec<u8> {
     runs.iter().flat_map(|(bytes, times)| bytes.repeat(*times)).collect()
 }
 
-/// A reading: its code (0 if accepted), its place, and n, a, b.
+/// A reading: its code (0 if accepted), its place and pattern, and n, a, b.
 pub struct ReadingCase {
     pub name: &'static str,
     pub runs: &'static [Run],
     pub code: u64,
     pub place: usize,
+    pub pattern: usize,
     pub numbers: [u64; 3],
 }
 
@@ -41,7 +43,7 @@ impl ReadingCase {
     pub fn answer(&self, which: u64) -> Answer {
         match self.code {
             0 => Answer::accepted(3, self.place),
-            code => Answer::refused(code, which, self.place),
+            code => Answer::refused(code, which, self.place).naming(self.pattern),
         }
     }
 }
@@ -52,11 +54,22 @@ const fn accepted(
     place: usize,
     numbers: [u64; 3],
 ) -> ReadingCase {
-    ReadingCase { name, runs, code: 0, place, numbers }
+    ReadingCase { name, runs, code: 0, place, pattern: 0, numbers }
 }
 
 const fn refused(name: &'static str, runs: &'static [Run], code: u64, place: usize) -> ReadingCase {
-    ReadingCase { name, runs, code, place, numbers: [0, 0, 0] }
+    ReadingCase { name, runs, code, place, pattern: 0, numbers: [0, 0, 0] }
+}
+
+/// The on cube at this place shares this pattern with an off cube, and none that is
+/// smaller.
+const fn clashes(
+    name: &'static str,
+    runs: &'static [Run],
+    place: usize,
+    pattern: usize,
+) -> ReadingCase {
+    ReadingCase { name, runs, code: 7, place, pattern, numbers: [0, 0, 0] }
 }
 
 pub const READINGS: &[ReadingCase] = &[
@@ -97,19 +110,44 @@ pub const READINGS: &[ReadingCase] = &[
     refused("input 0 in both masks", &[(&[0x46, 0x4E, 1, 0, 1, 1, 1], 1)], 6, 5),
     refused("6 in cube 0, 5 in cube 1", &[(&[0x46, 0x4E, 1, 1, 1, 1, 1, 2, 0], 1)], 6, 5),
     refused("5 in cube 1, 6 in cube 2", &[(&[0x46, 0x4E, 1, 2, 1, 1, 0, 2, 0, 1, 1], 1)], 5, 7),
-    refused("on and off everywhere", &[(&[0x46, 0x4E, 1, 1, 1, 0, 0, 0, 0], 1)], 7, 5),
-    refused(
+    clashes("on and off everywhere", &[(&[0x46, 0x4E, 1, 1, 1, 0, 0, 0, 0], 1)], 5, 0),
+    // On at 3 and at 1, off at 0 and at 1, 3.
+    clashes(
         "on cube 0 meets the last off cube",
         &[(&[0x46, 0x4E, 2, 2, 2, 3, 0, 1, 2, 0, 3, 1, 0], 1)],
-        7,
         5,
+        3,
     ),
-    refused(
+    // On at 3 and at 1, 3, off at 0, 2 and at 1.
+    clashes(
         "only on cube 1 meets an off cube",
         &[(&[0x46, 0x4E, 2, 2, 2, 3, 0, 1, 0, 0, 1, 1, 2], 1)],
         7,
-        7,
+        1,
     ),
+    // On at 2, 3, off at 3 and at 2.
+    clashes(
+        "the second off cube's pattern is smaller",
+        &[(&[0x46, 0x4E, 2, 1, 2, 2, 0, 3, 0, 2, 1], 1)],
+        5,
+        2,
+    ),
+    // On at 2, 3 and everywhere, off at 1, 3.
+    clashes(
+        "a later on cube's pattern is smaller",
+        &[(&[0x46, 0x4E, 2, 2, 1, 2, 0, 0, 0, 1, 0], 1)],
+        5,
+        3,
+    ),
+    // Inputs 7 and 6 are 1, inputs 0 and 1 are 0: 192 and those with some of inputs 2
+    // to 5 more.
+    clashes(
+        "a pattern that neither cube asks for alone",
+        &[(&[0x46, 0x4E, 8, 1, 1, 0x80, 0x01, 0x40, 0x02], 1)],
+        5,
+        192,
+    ),
+    clashes("the last pattern", &[(&[0x46, 0x4E, 8, 1, 1, 0xFF, 0, 0, 0], 1)], 5, 255),
     refused("7 waits for a bad off cube", &[(&[0x46, 0x4E, 1, 1, 2, 0, 0, 0, 0, 1, 1], 1)], 6, 9),
 ];
 
@@ -145,6 +183,7 @@ pub struct WritingCase {
     pub code: u64,
     pub record: u64,
     pub place: usize,
+    pub pattern: usize,
     pub written: Option<&'static [u8]>,
 }
 
@@ -160,7 +199,7 @@ impl WritingCase {
     pub fn answer(&self) -> Answer {
         match self.code {
             0 => Answer::accepted(3, self.place),
-            code => Answer::refused(code, self.record, self.place),
+            code => Answer::refused(code, self.record, self.place).naming(self.pattern),
         }
     }
 }
@@ -175,8 +214,8 @@ const fn written(
     room: usize,
     written: &'static [u8],
 ) -> WritingCase {
-    let place = written.len();
-    WritingCase { name, n, on, off, room, code: 0, record: 0, place, written: Some(written) }
+    let (code, record, place, pattern) = (0, 0, written.len(), 0);
+    WritingCase { name, n, on, off, room, code, record, place, pattern, written: Some(written) }
 }
 
 const fn unwritten(
@@ -187,7 +226,21 @@ const fn unwritten(
     room: usize,
     [code, record, place]: [u64; 3],
 ) -> WritingCase {
-    WritingCase { name, n, on, off, room, code, record, place: place as usize, written: None }
+    let (place, pattern) = (place as usize, 0);
+    WritingCase { name, n, on, off, room, code, record, place, pattern, written: None }
+}
+
+/// The on cube at this place shares this pattern with an off cube, and none that is
+/// smaller. There is no room either.
+const fn meets(
+    name: &'static str,
+    n: u8,
+    on: Run,
+    off: Run,
+    [place, pattern]: [usize; 2],
+) -> WritingCase {
+    let (room, code, record) = (0, 7, 1);
+    WritingCase { name, n, on, off, room, code, record, place, pattern, written: None }
 }
 
 /// By hand, but for the six records: 01 names no case of the writer.
@@ -207,6 +260,7 @@ pub const WRITINGS: &[WritingCase] = &[
         code: 0,
         record: 0,
         place: 261,
+        pattern: 0,
         written: None,
     },
     unwritten("Conj, one byte short", 2, (&[3, 0], 1), (&[0, 1, 0, 2], 1), 10, [18, 4, 11]),
@@ -224,7 +278,13 @@ pub const WRITINGS: &[WritingCase] = &[
     unwritten("6 in the on list, 5 later", 1, (&[1, 1, 2, 0], 1), NONE, 0, [6, 1, 0]),
     unwritten("5 and 6 in one cube", 1, NONE, (&[1, 0, 3, 3], 1), 0, [5, 2, 2]),
     unwritten("6 in the off list", 2, (&[1, 0], 1), (&[1, 0, 2, 2], 1), 0, [6, 2, 2]),
-    unwritten("a shared pattern", 2, (&[3, 0, 1, 0], 1), (&[0, 1, 1, 2], 1), 0, [7, 1, 2]),
+    // On at 3 and at 1, 3, off at 0, 2 and at 1.
+    meets("a shared pattern", 2, (&[3, 0, 1, 0], 1), (&[0, 1, 1, 2], 1), [2, 1]),
+    // On at 2, 3, off at 3 and at 2.
+    meets("the second off cube's is smaller", 2, (&[2, 0], 1), (&[3, 0, 2, 1], 1), [0, 2]),
+    // On at 2, 3 and everywhere, off at 1, 3.
+    meets("a later on cube's is smaller", 2, (&[2, 0, 0, 0], 1), (&[1, 0], 1), [0, 3]),
+    meets("64 and 64 cubes, at 255", 8, (&[0xFF, 0], 64), (&[0x80, 0], 64), [0, 255]),
 ];
 
 /// The bytes at fault of two records.
@@ -357,15 +417,18 @@ pub struct ClaimCase {
     pub f: &'static [u8],
     pub g: &'static [u8],
     pub claim: &'static [u8],
-    /// Code, kind, record, place.
-    pub numbers: [u64; 4],
+    /// Code, kind, record, place, pattern.
+    pub numbers: [u64; 5],
 }
 
 impl ClaimCase {
     pub fn answer(&self) -> Answer {
-        let [code, kind, record, place] = self.numbers;
-        Answer { code, kind, record, place }
+        answer(self.numbers)
     }
+}
+
+fn answer([code, kind, record, place, pattern]: [u64; 5]) -> Answer {
+    Answer { code, kind, record, place, pattern }
 }
 
 /// f and g.
@@ -373,7 +436,7 @@ type Records = [&'static [u8]; 2];
 
 /// Accepted as a claim of this kind, all of it.
 const fn holds(name: &'static str, [f, g]: Records, claim: &'static [u8], kind: u64) -> ClaimCase {
-    ClaimCase { name, f, g, claim, numbers: [0, kind, 0, claim.len() as u64] }
+    ClaimCase { name, f, g, claim, numbers: [0, kind, 0, claim.len() as u64, 0] }
 }
 
 /// The claim is refused with this code at this place.
@@ -383,17 +446,27 @@ const fn fails(
     claim: &'static [u8],
     [code, place]: [u64; 2],
 ) -> ClaimCase {
-    ClaimCase { name, f, g, claim, numbers: [code, 0, 3, place] }
+    ClaimCase { name, f, g, claim, numbers: [code, 0, 3, place, 0] }
 }
 
-/// One of the records is refused, whatever the claim.
+/// The functions disagree at this pattern of g, and at none that is smaller.
+const fn disagrees(
+    name: &'static str,
+    [f, g]: Records,
+    claim: &'static [u8],
+    pattern: u64,
+) -> ClaimCase {
+    ClaimCase { name, f, g, claim, numbers: [14, 0, 3, 0, pattern] }
+}
+
+/// One of the records is refused, whatever the claim: code, record, place, pattern.
 const fn unread(
     name: &'static str,
     [f, g]: Records,
     claim: &'static [u8],
-    [code, record, place]: [u64; 3],
+    [code, record, place, pattern]: [u64; 4],
 ) -> ClaimCase {
-    ClaimCase { name, f, g, claim, numbers: [code, 0, record, place] }
+    ClaimCase { name, f, g, claim, numbers: [code, 0, record, place, pattern] }
 }
 
 /// The refusal that 01 prints for Conj to Odd.
@@ -416,9 +489,10 @@ pub const CLAIMS: &[ClaimCase] = &[
     holds("Const to Wire", [CONST, WIRE], &[0x52, 0x46, 1, 0, 0, 0, 0, 0, 0], 2),
     holds("Open to Wire", [OPEN, WIRE], &[0x4D, 0x54, 1, 0, 0x00], 1),
     holds("Open to Wire, inverted", [OPEN, WIRE], &[0x4D, 0x54, 1, 0, 0x10], 1),
-    fails("Wire to Wire, inverted, q 0", [WIRE, WIRE], &[0x4D, 0x54, 1, 0, 0x10], [14, 0]),
+    // At 0, f is read at 1 and on, and g is off.
+    disagrees("Wire to Wire, inverted, q 0", [WIRE, WIRE], &[0x4D, 0x54, 1, 0, 0x10], 0),
     holds("Wire to Wire, inverted, q 1", [WIRE, WIRE], &[0x4D, 0x54, 1, 1, 0x10], 1),
-    unread("Wire to Conj", [WIRE, CONJ], &[0x4D, 0x54, 1, 0, 0x00], [9, 2, 2]),
+    unread("Wire to Conj", [WIRE, CONJ], &[0x4D, 0x54, 1, 0, 0x00], [9, 2, 2, 0]),
     fails("an input of g twice", [CONJ, DISJ], &[0x4D, 0x54, 2, 1, 0x10, 0x10], [13, 5]),
     fails("a split cut short", [CONST, WIRE], &[0x52, 0x46, 1, 0xFF], [1, 4]),
     fails("v beyond its list", [CONST, WIRE], &[0x52, 0x46, 1, 0, 0, 1], [15, 5]),
@@ -441,7 +515,8 @@ pub const CLAIMS: &[ClaimCase] = &[
     fails("input 2 of 2", [CONJ, DISJ], &[0x4D, 0x54, 2, 1, 0x02, 0x02], [12, 4]),
     fails("input 2 of 2, inverted", [CONJ, DISJ], &[0x4D, 0x54, 2, 1, 0x10, 0x12], [12, 5]),
     fails("plain and inverted", [CONJ, DISJ], &[0x4D, 0x54, 2, 1, 0x11, 0x01], [13, 5]),
-    fails("q 0 where q 1 agrees", [CONJ, DISJ], &[0x4D, 0x54, 2, 0, 0x10, 0x11], [14, 0]),
+    // At 0, f is read at 3 and on, and g is off.
+    disagrees("q 0 where q 1 agrees", [CONJ, DISJ], &[0x4D, 0x54, 2, 0, 0x10, 0x11], 0),
     holds("the inputs of g crossed", [CONJ, DISJ], &[0x4D, 0x54, 2, 1, 0x11, 0x10], 1),
     holds("a split although a pair is dead", [CONJ, ODD], CONJ_ODD_DEEPER, 2),
     holds(
@@ -461,8 +536,52 @@ pub const CLAIMS: &[ClaimCase] = &[
     fails("a split at depth n", [CONST, WIRE], &[0x52, 0x46, 1, 0xFF, 0xFF], [16, 4]),
     fails("one tree alone", [CONST, WIRE], &[0x52, 0x46, 1, 0, 0, 0], [1, 6]),
     fails("a third tree", [CONST, WIRE], &[0x52, 0x46, 1, 0, 0, 0, 0, 0, 0, 0, 0, 0], [8, 9]),
-    unread("f cut", [&[0x46], CONJ], &[], [1, 1, 1]),
-    unread("g cut, and of another n", [WIRE, &[0x46, 0x4E, 2]], &[], [1, 2, 3]),
+    unread("f cut", [&[0x46], CONJ], &[], [1, 1, 1, 0]),
+    unread("g cut, and of another n", [WIRE, &[0x46, 0x4E, 2]], &[], [1, 2, 3, 0]),
+    // On at 0 and at 3, off at 2, 3.
+    unread("on and off at once in f", [SEVEN, CONJ], &[], [7, 1, 7, 3]),
+    unread("on and off at once in g", [CONJ, SEVEN], &[0x4D], [7, 2, 7, 3]),
+    // Conj is off at 0, 1, 2 and Disj on at 1, 2, 3.
+    disagrees("Conj to Disj, straight", [CONJ, DISJ], &[0x4D, 0x54, 2, 0, 0x00, 0x01], 1),
+    // Both are on at 3, and off at 0.
+    disagrees("Conj to Disj, straight, q 1", [CONJ, DISJ], &[0x4D, 0x54, 2, 1, 0x00, 0x01], 0),
+    // Conj is on where input 1 of Disj is 0 and input 0 is 1, so it is off at 0, 2, 3. At
+    // 2 it is read at 0.
+    disagrees("Conj to Disj, half inverted", [CONJ, DISJ], &[0x4D, 0x54, 2, 0, 0x11, 0x00], 2),
+    // On everywhere, and on at 1.
+    disagrees("Const to Wire, q 1", [CONST, WIRE], &[0x4D, 0x54, 1, 1, 0x00], 1),
+    // Off everywhere, and on at 1.
+    disagrees("off everywhere to Wire", [NEVER, WIRE], &[0x4D, 0x54, 1, 0, 0x10], 1),
+    // f is on at 2, 3, g off at 3 and at 2.
+    disagrees(
+        "the second pair's pattern is smaller",
+        [&[0x46, 0x4E, 2, 1, 0, 2, 0], &[0x46, 0x4E, 2, 0, 2, 3, 0, 2, 1]],
+        &[0x4D, 0x54, 2, 0, 0x00, 0x01],
+        2,
+    ),
+    // f is on at 3 and off at 1, g the other way round.
+    disagrees(
+        "the pattern of f's off list is smaller",
+        [&[0x46, 0x4E, 2, 1, 1, 3, 0, 1, 2], &[0x46, 0x4E, 2, 1, 1, 1, 2, 3, 0]],
+        &[0x4D, 0x54, 2, 0, 0x00, 0x01],
+        1,
+    ),
+    // f is on where input 0 of g is 1, since that serves input 7 of f; g is off where its
+    // input 4 is 1: at 16 + 1, where f is read at 128 + 8.
+    disagrees(
+        "eight inputs turned round",
+        [&[0x46, 0x4E, 8, 1, 0, 0x80, 0], &[0x46, 0x4E, 8, 0, 1, 0x10, 0]],
+        &[0x4D, 0x54, 8, 0, 7, 6, 5, 4, 3, 2, 1, 0],
+        17,
+    ),
+    // f is on at 0 alone, and read there at 255, since all inputs are inverted. g is on
+    // everywhere.
+    disagrees(
+        "eight inputs inverted",
+        [&[0x46, 0x4E, 8, 1, 0, 0, 0xFF], &[0x46, 0x4E, 8, 1, 0, 0, 0]],
+        &[0x4D, 0x54, 8, 1, 0x10, 0x11, 0x12, 0x13, 0x14, 0x15, 0x16, 0x17],
+        255,
+    ),
 ];
 
 /// The matcher's answer to two functions, with a buffer of so many bytes.
@@ -471,15 +590,14 @@ pub struct MatchingCase {
     pub f: &'static [u8],
     pub g: &'static [u8],
     pub room: usize,
-    /// Code, kind, record, place.
-    pub numbers: [u64; 4],
+    /// Code, kind, record, place, pattern.
+    pub numbers: [u64; 5],
     pub written: Option<&'static [u8]>,
 }
 
 impl MatchingCase {
     pub fn answer(&self) -> Answer {
-        let [code, kind, record, place] = self.numbers;
-        Answer { code, kind, record, place }
+        answer(self.numbers)
     }
 }
 
@@ -487,18 +605,28 @@ impl MatchingCase {
 const fn finds(name: &'static str, [f, g]: Records, claim: &'static [u8]) -> MatchingCase {
     let place = claim.len();
     let kind = if claim[0] == 0x4D { 1 } else { 2 };
-    let numbers = [0, kind, 0, place as u64];
+    let numbers = [0, kind, 0, place as u64, 0];
     MatchingCase { name, f, g, room: place, numbers, written: Some(claim) }
 }
 
-/// Nothing is written.
+/// Nothing is written: code, record, place.
 const fn withholds(
     name: &'static str,
-    [f, g]: Records,
+    records: Records,
     room: usize,
     [code, record, place]: [u64; 3],
 ) -> MatchingCase {
-    MatchingCase { name, f, g, room, numbers: [code, 0, record, place], written: None }
+    unfound(name, records, room, [code, record, place, 0])
+}
+
+/// The same with a pattern.
+const fn unfound(
+    name: &'static str,
+    [f, g]: Records,
+    room: usize,
+    [code, record, place, pattern]: [u64; 4],
+) -> MatchingCase {
+    MatchingCase { name, f, g, room, numbers: [code, 0, record, place, pattern], written: None }
 }
 
 /// The paper's example 2.1, with its inputs counted from 0, and the wiring that it
@@ -577,7 +705,9 @@ pub const MATCHINGS: &[MatchingCase] = &[
     withholds("g of another n, and cut", [WIRE, &[0x46, 0x4E, 2]], 0, [1, 2, 3]),
     withholds("both of a wrong mark", [&[0x47], &[0x47]], 9, [2, 1, 0]),
     withholds("a bad cube in g", [CONJ, FIVE], 9, [5, 2, 7]),
-    withholds("on and off at once in f", [SEVEN, CONJ], 9, [7, 1, 7]),
+    // On at 0 and at 3, off at 2, 3.
+    unfound("on and off at once in f", [SEVEN, CONJ], 9, [7, 1, 7, 3]),
+    unfound("on and off at once in g", [CONJ, SEVEN], 0, [7, 2, 7, 3]),
 ];
 
 /// What a program prints for an input.
@@ -613,45 +743,47 @@ const LAST_OF_5: Records =
 
 /// The match program.
 pub const MATCH_TEXTS: &[TextCase] = &[
-    prints("Conj to Disj", &[(CONJ, 1), (DISJ, 1)], "0 1 0 6\n4D 54 02 01 10 11\n"),
+    prints("Conj to Disj", &[(CONJ, 1), (DISJ, 1)], "0 1 0 6 0\n4D 54 02 01 10 11\n"),
     prints(
         "Conj to Odd",
         &[(CONJ, 1), (ODD, 1)],
-        "0 2 0 29\n52 46 02 FF 01 00 01 01 00 00 01 00 00 01 00 01 \
+        "0 2 0 29 0\n52 46 02 FF 01 00 01 01 00 00 01 00 00 01 00 01 \
          FF 01 00 01 01 00 00 01 00 01 01 00 00\n",
     ),
-    prints("Const to Wire", &[(CONST, 1), (WIRE, 1)], "0 2 0 9\n52 46 01 00 00 00 00 00 00\n"),
-    prints("Open to Wire", &[(OPEN, 1), (WIRE, 1)], "0 1 0 5\n4D 54 01 00 00\n"),
-    prints("Wire to Conj", &[(WIRE, 1), (CONJ, 1)], "9 0 2 2\n"),
-    prints("nothing", &[], "1 0 1 0\n"),
-    prints("46 4E 00", &[(&[0x46, 0x4E, 0x00], 1)], "3 0 1 2\n"),
-    prints("46 4E 08 41", &[(&[0x46, 0x4E, 0x08, 0x41], 1)], "4 0 1 3\n"),
+    prints("Const to Wire", &[(CONST, 1), (WIRE, 1)], "0 2 0 9 0\n52 46 01 00 00 00 00 00 00\n"),
+    prints("Open to Wire", &[(OPEN, 1), (WIRE, 1)], "0 1 0 5 0\n4D 54 01 00 00\n"),
+    prints("Wire to Conj", &[(WIRE, 1), (CONJ, 1)], "9 0 2 2 0\n"),
+    prints("nothing", &[], "1 0 1 0 0\n"),
+    prints("46 4E 00", &[(&[0x46, 0x4E, 0x00], 1)], "3 0 1 2 0\n"),
+    prints("46 4E 08 41", &[(&[0x46, 0x4E, 0x08, 0x41], 1)], "4 0 1 3 0\n"),
     // Without off cubes there is nothing to keep apart.
     prints(
         "a count of 64 passes",
         &[FULL[0], FULL[1], FULL[0], FULL[1]],
-        "0 1 0 5\n4D 54 01 00 00\n",
+        "0 1 0 5 0\n4D 54 01 00 00\n",
     ),
     // By hand, from the cut and from the order of the tests.
-    prints("one byte", &[(&[0x46], 1)], "1 0 1 1\n"),
-    prints("four bytes are f's", &[(&[0x46, 0x4E, 1, 0], 1)], "1 0 1 4\n"),
-    prints("f cut", &[(&[0x46, 0x4E, 1, 1, 1, 1, 0, 0], 1)], "1 0 1 8\n"),
-    prints("f alone", &[(CONJ, 1)], "1 0 2 0\n"),
-    prints("f and four bytes", &[(CONJ, 1), (&[0x46, 0x4E, 2, 1], 1)], "1 0 2 4\n"),
-    prints("g cut", &[(OPEN, 1), (&[0x46, 0x4E, 1, 1, 1, 1, 0, 0], 1)], "1 0 2 8\n"),
-    prints("a cube of f from g", &[(&[0x46, 0x4E, 1, 1, 0], 1), (WIRE, 1)], "5 0 1 5\n"),
-    prints("a byte after g", &[(OPEN, 1), (WIRE, 1), (&[0], 1)], "0 1 0 5\n4D 54 01 00 00\n"),
-    prints("Odd after g", &[(OPEN, 1), (WIRE, 1), (ODD, 1)], "0 1 0 5\n4D 54 01 00 00\n"),
-    prints("f of a wrong mark", &[(&[0x47, 0x4E, 2, 0, 0], 1), (CONJ, 1)], "2 0 1 0\n"),
-    prints("g of a wrong mark", &[(CONJ, 1), (&[0x46, 0x46, 2, 0, 0], 1)], "2 0 2 1\n"),
-    prints("n is 9 in f", &[(&[0x46, 0x4E, 9, 0, 0], 1), (CONJ, 1)], "3 0 1 2\n"),
-    prints("n is 0 in g", &[(CONJ, 1), (&[0x46, 0x4E, 0, 0, 0], 1)], "3 0 2 2\n"),
-    prints("255 cubes twice in f", &[(COUNTS_255, 1), CUBES_510, (CONJ, 1)], "4 0 1 3\n"),
-    prints("255 cubes twice in g", &[(WIRE, 1), (COUNTS_255, 1), CUBES_510], "4 0 2 3\n"),
-    prints("a bad cube in g", &[(CONJ, 1), (FIVE, 1)], "5 0 2 7\n"),
-    prints("an input twice in f", &[(SIX, 1), (CONJ, 1)], "6 0 1 5\n"),
-    prints("on and off at once in f", &[(SEVEN, 1), (CONJ, 1)], "7 0 1 7\n"),
-    prints("a long refusal", &[(LAST_OF_5[0], 1), (LAST_OF_5[1], 1)], "18 0 4 28025\n"),
+    prints("one byte", &[(&[0x46], 1)], "1 0 1 1 0\n"),
+    prints("four bytes are f's", &[(&[0x46, 0x4E, 1, 0], 1)], "1 0 1 4 0\n"),
+    prints("f cut", &[(&[0x46, 0x4E, 1, 1, 1, 1, 0, 0], 1)], "1 0 1 8 0\n"),
+    prints("f alone", &[(CONJ, 1)], "1 0 2 0 0\n"),
+    prints("f and four bytes", &[(CONJ, 1), (&[0x46, 0x4E, 2, 1], 1)], "1 0 2 4 0\n"),
+    prints("g cut", &[(OPEN, 1), (&[0x46, 0x4E, 1, 1, 1, 1, 0, 0], 1)], "1 0 2 8 0\n"),
+    prints("a cube of f from g", &[(&[0x46, 0x4E, 1, 1, 0], 1), (WIRE, 1)], "5 0 1 5 0\n"),
+    prints("a byte after g", &[(OPEN, 1), (WIRE, 1), (&[0], 1)], "0 1 0 5 0\n4D 54 01 00 00\n"),
+    prints("Odd after g", &[(OPEN, 1), (WIRE, 1), (ODD, 1)], "0 1 0 5 0\n4D 54 01 00 00\n"),
+    prints("f of a wrong mark", &[(&[0x47, 0x4E, 2, 0, 0], 1), (CONJ, 1)], "2 0 1 0 0\n"),
+    prints("g of a wrong mark", &[(CONJ, 1), (&[0x46, 0x46, 2, 0, 0], 1)], "2 0 2 1 0\n"),
+    prints("n is 9 in f", &[(&[0x46, 0x4E, 9, 0, 0], 1), (CONJ, 1)], "3 0 1 2 0\n"),
+    prints("n is 0 in g", &[(CONJ, 1), (&[0x46, 0x4E, 0, 0, 0], 1)], "3 0 2 2 0\n"),
+    prints("255 cubes twice in f", &[(COUNTS_255, 1), CUBES_510, (CONJ, 1)], "4 0 1 3 0\n"),
+    prints("255 cubes twice in g", &[(WIRE, 1), (COUNTS_255, 1), CUBES_510], "4 0 2 3 0\n"),
+    prints("a bad cube in g", &[(CONJ, 1), (FIVE, 1)], "5 0 2 7 0\n"),
+    prints("an input twice in f", &[(SIX, 1), (CONJ, 1)], "6 0 1 5 0\n"),
+    // On at 0 and at 3, off at 2, 3.
+    prints("on and off at once in f", &[(SEVEN, 1), (CONJ, 1)], "7 0 1 7 3\n"),
+    prints("on and off at once in g", &[(CONJ, 1), (SEVEN, 1)], "7 0 2 7 3\n"),
+    prints("a long refusal", &[(LAST_OF_5[0], 1), (LAST_OF_5[1], 1)], "18 0 4 28025 0\n"),
 ];
 
 /// The check program.
@@ -659,81 +791,105 @@ pub const CHECK_TEXTS: &[TextCase] = &[
     prints(
         "Conj to Disj",
         &[(CONJ, 1), (DISJ, 1), (&[0x4D, 0x54, 2, 1, 0x10, 0x11], 1)],
-        "0 1 0 6\n",
+        "0 1 0 6 0\n",
     ),
-    prints("Conj to Odd", &[(CONJ, 1), (ODD, 1), (CONJ_ODD_CLAIM, 1)], "0 2 0 29\n"),
+    prints("Conj to Odd", &[(CONJ, 1), (ODD, 1), (CONJ_ODD_CLAIM, 1)], "0 2 0 29 0\n"),
     prints(
         "Const to Wire",
         &[(CONST, 1), (WIRE, 1), (&[0x52, 0x46, 1], 1), (&[0], 6)],
-        "0 2 0 9\n",
+        "0 2 0 9 0\n",
     ),
-    prints("Open to Wire", &[(OPEN, 1), (WIRE, 1), (&[0x4D, 0x54, 1, 0, 0], 1)], "0 1 0 5\n"),
+    prints("Open to Wire", &[(OPEN, 1), (WIRE, 1), (&[0x4D, 0x54, 1, 0, 0], 1)], "0 1 0 5 0\n"),
     prints(
         "Open to Wire, inverted",
         &[(OPEN, 1), (WIRE, 1), (&[0x4D, 0x54, 1, 0, 0x10], 1)],
-        "0 1 0 5\n",
+        "0 1 0 5 0\n",
     ),
     prints(
         "Wire to Wire, inverted, q 0",
         &[(WIRE, 2), (&[0x4D, 0x54, 1, 0, 0x10], 1)],
-        "14 0 3 0\n",
+        "14 0 3 0 0\n",
     ),
     prints(
         "Wire to Wire, inverted, q 1",
         &[(WIRE, 2), (&[0x4D, 0x54, 1, 1, 0x10], 1)],
-        "0 1 0 5\n",
+        "0 1 0 5 0\n",
     ),
-    prints("Wire to Conj", &[(WIRE, 1), (CONJ, 1), (&[0x4D, 0x54, 1, 0, 0], 1)], "9 0 2 2\n"),
+    prints("Wire to Conj", &[(WIRE, 1), (CONJ, 1), (&[0x4D, 0x54, 1, 0, 0], 1)], "9 0 2 2 0\n"),
     prints(
         "an input of g twice",
         &[(CONJ, 1), (DISJ, 1), (&[0x4D, 0x54, 2, 1, 0x10, 0x10], 1)],
-        "13 0 3 5\n",
+        "13 0 3 5 0\n",
     ),
-    prints("a split cut short", &[(CONST, 1), (WIRE, 1), (&[0x52, 0x46, 1, 0xFF], 1)], "1 0 3 4\n"),
+    prints(
+        "a split cut short",
+        &[(CONST, 1), (WIRE, 1), (&[0x52, 0x46, 1, 0xFF], 1)],
+        "1 0 3 4 0\n",
+    ),
     prints(
         "v beyond its list",
         &[(CONST, 1), (WIRE, 1), (&[0x52, 0x46, 1, 0, 0, 1], 1)],
-        "15 0 3 5\n",
+        "15 0 3 5 0\n",
     ),
-    prints("nothing", &[], "1 0 1 0\n"),
-    prints("46 4E 00", &[(&[0x46, 0x4E, 0x00], 1)], "3 0 1 2\n"),
-    prints("46 4E 08 41", &[(&[0x46, 0x4E, 0x08, 0x41], 1)], "4 0 1 3\n"),
+    prints("nothing", &[], "1 0 1 0 0\n"),
+    prints("46 4E 00", &[(&[0x46, 0x4E, 0x00], 1)], "3 0 1 2 0\n"),
+    prints("46 4E 08 41", &[(&[0x46, 0x4E, 0x08, 0x41], 1)], "4 0 1 3 0\n"),
     prints(
         "a count of 64 passes",
         &[FULL[0], FULL[1], FULL[0], FULL[1], (&[0x4D, 0x54, 1, 0, 0], 1)],
-        "0 1 0 5\n",
+        "0 1 0 5 0\n",
     ),
     // By hand, from the cut and from the order of the tests.
-    prints("four bytes are f's", &[(&[0x46, 0x4E, 1, 0], 1)], "1 0 1 4\n"),
-    prints("f and four bytes", &[(CONJ, 1), (&[0x46, 0x4E, 2, 1], 1)], "1 0 2 4\n"),
-    prints("no claim", &[(CONJ, 1), (DISJ, 1)], "1 0 3 0\n"),
-    prints("a wrong mark", &[(CONJ, 1), (DISJ, 1), (&[0x46], 1)], "2 0 3 0\n"),
-    prints("another n", &[(CONJ, 1), (DISJ, 1), (&[0x4D, 0x54, 3], 1)], "10 0 3 2\n"),
-    prints("q is 2", &[(WIRE, 2), (&[0x4D, 0x54, 1, 2, 0], 1)], "11 0 3 3\n"),
-    prints("input 1 of 1, inverted", &[(WIRE, 2), (&[0x4D, 0x54, 1, 0, 0x11], 1)], "12 0 3 4\n"),
+    prints("four bytes are f's", &[(&[0x46, 0x4E, 1, 0], 1)], "1 0 1 4 0\n"),
+    prints("f and four bytes", &[(CONJ, 1), (&[0x46, 0x4E, 2, 1], 1)], "1 0 2 4 0\n"),
+    prints("no claim", &[(CONJ, 1), (DISJ, 1)], "1 0 3 0 0\n"),
+    prints("a wrong mark", &[(CONJ, 1), (DISJ, 1), (&[0x46], 1)], "2 0 3 0 0\n"),
+    prints("another n", &[(CONJ, 1), (DISJ, 1), (&[0x4D, 0x54, 3], 1)], "10 0 3 2 0\n"),
+    prints("q is 2", &[(WIRE, 2), (&[0x4D, 0x54, 1, 2, 0], 1)], "11 0 3 3 0\n"),
+    prints("input 1 of 1, inverted", &[(WIRE, 2), (&[0x4D, 0x54, 1, 0, 0x11], 1)], "12 0 3 4 0\n"),
     prints(
         "a split at depth n",
         &[(CONST, 1), (WIRE, 1), (&[0x52, 0x46, 1, 0xFF, 0xFF], 1)],
-        "16 0 3 4\n",
+        "16 0 3 4 0\n",
     ),
-    prints("a pair not dead", &[(CONJ, 1), (ODD, 1), (&[0x52, 0x46, 2, 1, 0, 1], 1)], "17 0 3 3\n"),
+    prints(
+        "a pair not dead",
+        &[(CONJ, 1), (ODD, 1), (&[0x52, 0x46, 2, 1, 0, 1], 1)],
+        "17 0 3 3 0\n",
+    ),
     prints(
         "a line's end after the claim",
         &[(OPEN, 1), (WIRE, 1), (&[0x4D, 0x54, 1, 0, 0, 0x0A], 1)],
-        "8 0 3 5\n",
+        "8 0 3 5 0\n",
     ),
-    prints("f of a wrong mark", &[(&[0x47, 0x4E, 2, 0, 0], 2), (&[0], 49_152)], "2 0 1 0\n"),
+    // As in the claims above.
+    prints(
+        "Conj to Disj, half inverted",
+        &[(CONJ, 1), (DISJ, 1), (&[0x4D, 0x54, 2, 0, 0x11, 0x00], 1)],
+        "14 0 3 0 2\n",
+    ),
+    prints(
+        "eight inputs inverted",
+        &[
+            (&[0x46, 0x4E, 8, 1, 0, 0, 0xFF], 1),
+            (&[0x46, 0x4E, 8, 1, 0, 0, 0], 1),
+            (&[0x4D, 0x54, 8, 1, 0x10, 0x11, 0x12, 0x13, 0x14, 0x15, 0x16, 0x17], 1),
+        ],
+        "14 0 3 0 255\n",
+    ),
+    prints("on and off at once in g", &[(CONJ, 1), (SEVEN, 1)], "7 0 2 7 3\n"),
+    prints("f of a wrong mark", &[(&[0x47, 0x4E, 2, 0, 0], 2), (&[0], 49_152)], "2 0 1 0 0\n"),
     prints("and too long", &[(&[0x47, 0x4E, 2, 0, 0], 2), (&[0], 49_153)], "too long\n"),
-    prints("255 cubes twice", &[(COUNTS_255, 1), CUBES_510, (CONJ, 1)], "4 0 1 3\n"),
+    prints("255 cubes twice", &[(COUNTS_255, 1), CUBES_510, (CONJ, 1)], "4 0 1 3 0\n"),
     prints(
         "255 cubes twice in g",
         &[(CONJ, 1), (COUNTS_255, 1), CUBES_510, (&[0], 49_152)],
-        "4 0 2 3\n",
+        "4 0 2 3 0\n",
     ),
     prints(
         "255 cubes four times",
         &[(COUNTS_255, 1), CUBES_510, (COUNTS_255, 1), CUBES_510, (&[0], 49_152)],
-        "4 0 1 3\n",
+        "4 0 1 3 0\n",
     ),
     prints(
         "255 cubes four times, and too long",

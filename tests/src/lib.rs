@@ -17,6 +17,7 @@
 //! - `matches`: the matcher, likewise;
 //! - `tables`: the calls on espresso tables, likewise;
 //! - `programs`: the programs, run and held against the reference;
+//! - `patterns`: what gives codes 7 and 14 with many patterns, and wrong patterns;
 //! - `cases`: the small functions and cases that 01 names, with its numbers;
 //! - `lent`: slices lent to a call, with known elements in them and around them;
 //! - `wrong`: what the tests of mistakes share;
@@ -29,6 +30,7 @@ pub mod command;
 pub mod json;
 pub mod lent;
 pub mod matches;
+pub mod patterns;
 pub mod programs;
 pub mod random;
 pub mod records;

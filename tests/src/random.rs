@@ -201,7 +201,7 @@ pub fn any_cube(random: &mut Random, n: usize) -> Cube {
 }
 
 /// The cube that holds just one pattern.
-fn point(n: usize, pattern: usize) -> Cube {
+pub fn point(n: usize, pattern: usize) -> Cube {
     (0..n).fold(Cube::ALL, |cube, input| with(cube, input, value(pattern, input)))
 }
 

@@ -22,6 +22,6 @@ pub fn hex_near(bytes: &[u8], place: usize) -> String {
 }
 
 pub fn answer(answer: Answer) -> String {
-    let Answer { code, kind, record, place } = answer;
-    format!("code {code} kind {kind} record {record} place {place}")
+    let Answer { code, kind, record, place, pattern } = answer;
+    format!("code {code} kind {kind} record {record} place {place} pattern {pattern}")
 }

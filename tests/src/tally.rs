@@ -50,6 +50,9 @@ impl Tally {
     }
 }
 
+/// More codes than these are not shown one by one.
+const MOST_SHOWN: usize = 64;
+
 /// One line per call: its cases, then `code:count` for each code seen.
 impl fmt::Display for Tally {
     fn fmt(&self, out: &mut fmt::Formatter) -> fmt::Result {
@@ -59,6 +62,12 @@ impl fmt::Display for Tally {
             let of_call = self.counts.iter().filter(|((name, _), _)| *name == call);
             let cases: u64 = of_call.clone().map(|(_, count)| count).sum();
             write!(out, "{call}: {cases} cases,")?;
+            let codes = of_call.clone().count();
+            if codes > MOST_SHOWN {
+                let least = of_call.map(|(_, count)| count).min().expect("more than one");
+                writeln!(out, " {codes} different, each at least {least} times")?;
+                continue;
+            }
             for ((_, code), count) in of_call {
                 write!(out, " {code}:{count}")?;
             }
@@ -102,5 +111,13 @@ mod tests {
         assert_eq!(both.missing("read", &[1], 4), Vec::<String>::new());
         assert_eq!(both.missing("read", &[1], 5), ["read: code 1 seen 4 times"]);
         assert_eq!(both.missing("read", &[2], 1), ["read: code 2 seen 0 times"]);
+    }
+
+    #[test]
+    fn many_codes_are_counted() {
+        let mut tally = Tally::default();
+        (0..200).for_each(|at| tally.add("read", at % 100));
+        (0..50).for_each(|at| tally.add("read", at));
+        assert_eq!(tally.to_string(), "read: 250 cases, 100 different, each at least 2 times\n");
     }
 }

@@ -1,9 +1,11 @@
-//! What the tests of mistakes share: that each is noticed, and wrong readings of
-//! two records.
+//! What the tests of mistakes share: that each is noticed, wrong readings of two
+//! records, and wrong patterns.
 
+use crate::patterns::{OfClash, OF_CLASH};
 use crate::records::Outcome;
 use crate::reference::answer::{Answer, OF_F, OF_G};
-use crate::reference::record::function;
+use crate::reference::pattern::{Clash, Function};
+use crate::reference::record::{cubes, function, CUBES};
 
 /// Fails at a mistake that goes unnoticed: what is wrong, the wrong call, and the
 /// sweep that has to notice.
@@ -38,3 +40,38 @@ pub const READINGS: [(&str, Reading); 4] = [
         _ => right,
     }),
 ];
+
+/// The function of a record whose length is right, whether or not it is accepted.
+pub fn lists(record: &[u8]) -> Function {
+    let list = cubes(&record[CUBES..]);
+    let (on, off) = list.split_at(record[3] as usize);
+    Function { n: record[2] as usize, on: on.to_vec(), off: off.to_vec() }
+}
+
+/// What is told with a wrong pattern where 7 is right: of a function whose on cubes start
+/// at this place.
+pub fn misnamed(
+    wrong: OfClash,
+    f: impl FnOnce() -> Function,
+    start: usize,
+    right: Answer,
+) -> Answer {
+    if right.code != 7 {
+        return right;
+    }
+    let at = (right.place as usize - start) / 2;
+    right.naming(wrong(&f(), Clash { at, pattern: right.pattern as usize }))
+}
+
+/// Readings of f and g with a wrong pattern.
+pub fn misnaming() -> impl Iterator<Item = (&'static str, impl Fn(&[u8], &[u8], Answer) -> Answer)>
+{
+    let reading = |(name, wrong): (_, OfClash)| {
+        let told = move |f: &[u8], g: &[u8], right: Answer| {
+            let record = if right.record == OF_G { g } else { f };
+            misnamed(wrong, || lists(record), CUBES, right)
+        };
+        (name, told)
+    };
+    OF_CLASH.into_iter().map(reading)
+}

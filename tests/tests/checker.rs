@@ -5,9 +5,11 @@ use zap_tests::cases::CLAIMS;
 use zap_tests::claims::trees::{forged, refused_pair, split_everywhere};
 use zap_tests::claims::{sweeps, Trial};
 use zap_tests::claims::{BEYOND, CHECK, CLOSED, CUT, HEADER_CUT, HEADER_MARK, MATCHES};
+use zap_tests::claims::{CLASH_PATTERNS, OTHER_PATTERN, PATTERNS};
 use zap_tests::claims::{
     MATCH_CLAIM, NOT_DEAD, OF_F_OR_G, REFUSAL_CLAIM, SPLITS, SPLIT_AT_N, TREE,
 };
+use zap_tests::patterns::OF_WIRING;
 use zap_tests::random::Random;
 use zap_tests::reference::agreement::Tables;
 use zap_tests::reference::answer::{Answer, NO_MATCH, OF_CLAIM};
@@ -18,8 +20,10 @@ use zap_tests::show::{self, hex};
 use zap_tests::tally;
 use zap_tests::wirings::pairs::any_pair;
 
-/// Each kind of answer came at least so often, for each code, place, depth or n.
+/// Each kind of answer came at least so often, for each code, place, depth or n; 7 with
+/// each pattern of 8 inputs once, and 14 so often.
 const FLOOR: u64 = 100;
+const FLOOR_OF_A_PATTERN: u64 = 3;
 
 #[test]
 fn the_call_answers_as_the_reference() {
@@ -46,9 +50,14 @@ fn the_call_answers_as_the_reference() {
         (SPLITS, every_n),
         (CLOSED, &[1, 2, 3, 4]),
     ];
+    let mistakes: Vec<u64> = (0..OF_WIRING.len() as u64).collect();
+    wanted.push((OTHER_PATTERN, &mistakes));
     wanted.extend(TREE.map(|line| (line, &[1, 15, 16, 17][..])));
     wanted.extend([CUT, BEYOND].concat().into_iter().map(|line| (line, depths)));
     tally.require(&wanted, FLOOR);
+    let all: Vec<u64> = (0..256).collect();
+    tally.demand(&CLASH_PATTERNS.map(|line| (line, &all[..])), 1);
+    tally.demand(&PATTERNS.map(|line| (line, &all[..])), FLOOR_OF_A_PATTERN);
 }
 
 /// The cases that 01 names, and some worked out by hand from its rules: the

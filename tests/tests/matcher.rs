@@ -4,7 +4,7 @@ use zap_tests::calls;
 use zap_tests::cases::{EXAMPLE_2_1, EXAMPLE_3_2, MATCHINGS, WIRINGS_OF_3_3, WIRING_OF_2_1};
 use zap_tests::claims::trees::split_everywhere;
 use zap_tests::matches::{sweeps, wiring_of, Trial};
-use zap_tests::matches::{CHECKED, CLOSED, CLOSED_AT, CLOSED_BY, SPLITS, SPLIT_AT};
+use zap_tests::matches::{CHECKED, CLASH_PATTERNS, CLOSED, CLOSED_AT, CLOSED_BY, SPLITS, SPLIT_AT};
 use zap_tests::matches::{EMPTY, EXACT, FIND, LONGER, OF_F_OR_G, ONE_SHORT, SHORT};
 use zap_tests::matches::{KNOWN, NOT_STRAIGHT, ONE_WAY, PHASE};
 use zap_tests::reference::answer::{Answer, MATCH, NO_MATCH, OF_BUFFER};
@@ -13,9 +13,10 @@ use zap_tests::show::{self, hex};
 use zap_tests::tally;
 
 /// Each kind of answer came at least so often, for each code, kind, depth or n; for
-/// more inputs than 4 at least so often.
+/// more inputs than 4, and for each pattern of 8 inputs, at least so often.
 const FLOOR: u64 = 100;
 const FLOOR_OF_MORE: u64 = 20;
+const FLOOR_OF_A_PATTERN: u64 = 1;
 
 #[test]
 fn the_call_answers_as_the_reference() {
@@ -51,6 +52,9 @@ fn the_call_answers_as_the_reference() {
     wanted.extend(SPLIT_AT.map(|line| (line, &[4][..])));
     wanted.extend(CLOSED_AT.map(|line| (line, &[5][..])));
     tally.demand(&wanted, FLOOR_OF_MORE);
+
+    let all: Vec<u64> = (0..256).collect();
+    tally.demand(&CLASH_PATTERNS.map(|line| (line, &all[..])), FLOOR_OF_A_PATTERN);
 }
 
 /// The cases that 01 names, the examples of the paper, and some worked out by hand

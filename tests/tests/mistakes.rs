@@ -4,6 +4,7 @@
 //! one call. The sweep named beside it has to notice; the reference itself passes.
 
 use zap_tests::calls::RecordCalls;
+use zap_tests::patterns::OF_CLASH;
 use zap_tests::records::sweeps::{self, Sweep};
 use zap_tests::records::Trial;
 use zap_tests::reference::answer::Answer;
@@ -12,7 +13,7 @@ use zap_tests::reference::pattern::{patterns, Cube, Function, INPUTS};
 use zap_tests::reference::record::{cubes, first_bad_cube, function, read, CUBES, MARK};
 use zap_tests::reference::summary::summary;
 use zap_tests::reference::writer::write;
-use zap_tests::wrong::all_noticed;
+use zap_tests::wrong::{all_noticed, lists, misnamed};
 
 /// The reference in the form of the calls.
 const RIGHT: RecordCalls = RecordCalls {
@@ -50,14 +51,27 @@ fn copy(out: &mut [u8], part: &[u8]) -> u64 {
 
 #[test]
 fn the_reference_passes() {
-    for sweep in [sweeps::small_functions, sweeps::pairs_and_slices, sweeps::small_lists] {
+    let sweeps: [Sweep; 5] = [
+        sweeps::small_functions,
+        sweeps::pairs_and_slices,
+        sweeps::small_lists,
+        sweeps::clashes,
+        sweeps::long_lists,
+    ];
+    for sweep in sweeps {
         assert_eq!(sweep(&mut Trial::new(RIGHT)), Ok(()));
     }
 }
 
 #[test]
 fn every_mistake_is_noticed() {
-    let groups = [reader_mistakes(), summary_mistakes(), writer_mistakes(), fault_mistakes()];
+    let groups = [
+        reader_mistakes(),
+        summary_mistakes(),
+        writer_mistakes(),
+        pattern_mistakes(),
+        fault_mistakes(),
+    ];
     all_noticed(groups.concat(), Trial::new);
 }
 
@@ -80,13 +94,6 @@ fn reader(read: fn(&[u8], &mut [u64]) -> u64) -> RecordCalls {
 fn cube_at(record: &[u8], place: u64) -> Cube {
     let place = place as usize;
     Cube { p: record[place], n: record[place + 1] }
-}
-
-/// The lists of a record whose length is right, whether or not it is accepted.
-fn lists(record: &[u8]) -> Function {
-    let list = cubes(&record[CUBES..]);
-    let (on, off) = list.split_at(record[3] as usize);
-    Function { n: record[2] as usize, on: on.to_vec(), off: off.to_vec() }
 }
 
 fn reader_mistakes() -> Vec<Mistake> {
@@ -372,6 +379,131 @@ fn writer_mistakes() -> Vec<Mistake> {
             sweeps::small_lists,
         ),
     ]
+}
+
+// ---- The pattern ----
+
+/// Reader, summary and writer with the wrong pattern of this number.
+fn misnaming<const MISTAKE: usize>() -> [RecordCalls; 3] {
+    let read: fn(&[u8], &mut [u64]) -> u64 = |record, numbers| {
+        let (_, wrong) = OF_CLASH[MISTAKE];
+        tell(numbers, record, |right| misnamed(wrong, || lists(record), CUBES, right))
+    };
+    let summary = |record: &[u8], numbers: &mut [u64]| {
+        let (_, wrong) = OF_CLASH[MISTAKE];
+        let right = Answer::unpacked((RIGHT.summary)(record, numbers));
+        misnamed(wrong, || lists(record), CUBES, right).packed()
+    };
+    let write = |n: u8, on: &[u8], off: &[u8], out: &mut [u8]| {
+        let (_, wrong) = OF_CLASH[MISTAKE];
+        let right = Answer::unpacked((RIGHT.write)(n, on, off, out));
+        let f = || Function { n: n as usize, on: cubes(on), off: cubes(off) };
+        misnamed(wrong, f, 0, right).packed()
+    };
+    [reader(read), counts(summary), writer(write)]
+}
+
+/// The number with 40 bits for the place, and the pattern added at the top.
+fn packed_by_40_bits(Answer { code, kind, record, place, pattern }: Answer) -> u64 {
+    (code + (kind << 8) + (record << 16) + (place << 24)).wrapping_add(pattern << 56)
+}
+
+fn pattern_mistakes() -> Vec<Mistake> {
+    let misnaming = [
+        misnaming::<0>(),
+        misnaming::<1>(),
+        misnaming::<2>(),
+        misnaming::<3>(),
+        misnaming::<4>(),
+        misnaming::<5>(),
+        misnaming::<6>(),
+    ];
+    assert_eq!(misnaming.len(), OF_CLASH.len());
+    let named = OF_CLASH.into_iter().zip(misnaming);
+    let wrong = named
+        .flat_map(|((name, _), calls)| calls.map(|call| (name, call, sweeps::clashes as Sweep)));
+    let others: [Mistake; 9] = [
+        (
+            "a pattern left in an accepted reading",
+            reader(|record, numbers| {
+                tell(numbers, record, |right| match right.code {
+                    0 => right.naming(1),
+                    _ => right,
+                })
+            }),
+            sweeps::small_functions,
+        ),
+        (
+            "a pattern left in an accepted summary",
+            counts(|record, numbers| {
+                let right = Answer::unpacked((RIGHT.summary)(record, numbers));
+                let pattern = if right.code == 0 { 255 } else { right.pattern };
+                Answer { pattern, ..right }.packed()
+            }),
+            sweeps::small_functions,
+        ),
+        (
+            "a pattern left in an accepted writing",
+            writer(|n, on, off, out| {
+                let right = Answer::unpacked((RIGHT.write)(n, on, off, out));
+                let pattern = if right.code == 0 { 1 } else { right.pattern };
+                Answer { pattern, ..right }.packed()
+            }),
+            sweeps::small_lists,
+        ),
+        (
+            "a pattern told with 6",
+            reader(|record, numbers| {
+                tell(numbers, record, |right| match right.code {
+                    6 => right.naming(cube_at(record, right.place).p as usize),
+                    _ => right,
+                })
+            }),
+            sweeps::small_functions,
+        ),
+        (
+            "the pattern of 7 told as its place",
+            reader(|record, numbers| {
+                tell(numbers, record, |right| match right.code {
+                    7 => Answer { place: right.pattern, pattern: 0, ..right },
+                    _ => right,
+                })
+            }),
+            sweeps::clashes,
+        ),
+        (
+            "the pattern below the top eight bits",
+            reader(|record, numbers| {
+                let right = Answer::unpacked((RIGHT.read)(record, numbers));
+                Answer { pattern: 0, ..right }.packed() + (right.pattern << 48)
+            }),
+            sweeps::clashes,
+        ),
+        (
+            "the pattern without its top bit",
+            reader(|record, numbers| {
+                tell(numbers, record, |right| right.naming(right.pattern as usize % 128))
+            }),
+            sweeps::clashes,
+        ),
+        (
+            "the top bits of a place run into the pattern",
+            writer(|n, on, off, out| match write(n, on, off, out.len()) {
+                (answer @ Answer { code: 19, .. }, _) => packed_by_40_bits(answer),
+                _ => (RIGHT.write)(n, on, off, out),
+            }),
+            sweeps::long_lists,
+        ),
+        (
+            "a place that is too large without its top bits",
+            writer(|n, on, off, out| match write(n, on, off, out.len()) {
+                (answer, None) => Answer { place: answer.place % (1 << 32), ..answer }.packed(),
+                _ => (RIGHT.write)(n, on, off, out),
+            }),
+            sweeps::long_lists,
+        ),
+    ];
+    wrong.chain(others).collect()
 }
 
 // ---- The bytes at fault ----

@@ -122,7 +122,7 @@ fn a_pipe_that_ends_after_half() {
             }
             drop(writer);
             let printed = run(name, reader.into(), Stdio::piped());
-            assert_eq!(printed, ("1 0 2 5\n".to_string(), String::new()), "{name}");
+            assert_eq!(printed, ("1 0 2 5 0\n".to_string(), String::new()), "{name}");
         }
     }
 }

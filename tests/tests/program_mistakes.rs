@@ -477,6 +477,7 @@ fn lines() -> Vec<Mistake> {
             sweeps::named_functions,
         ),
         ("Too long", printing(|reply| reply.text().replace("too", "Too")), sweeps::noise),
+        ("too long 0", printing(|reply| reply.text().replace("long", "long 0")), sweeps::noise),
     ]
 }
 
@@ -490,8 +491,8 @@ fn numbers_and_bytes() -> Vec<Mistake> {
         (
             "the numbers in hex",
             printing(|reply| {
-                told(reply, |Answer { code, kind, record, place }| {
-                    format!("{code:X} {kind:X} {record:X} {place:X}")
+                told(reply, |Answer { code, kind, record, place, pattern }| {
+                    format!("{code:X} {kind:X} {record:X} {place:X} {pattern:X}")
                 })
             }),
             sweeps::named_functions,
@@ -499,8 +500,8 @@ fn numbers_and_bytes() -> Vec<Mistake> {
         (
             "the numbers of two digits",
             printing(|reply| {
-                told(reply, |Answer { code, kind, record, place }| {
-                    format!("{code:02} {kind:02} {record:02} {place:02}")
+                told(reply, |Answer { code, kind, record, place, pattern }| {
+                    format!("{code:02} {kind:02} {record:02} {place:02} {pattern:02}")
                 })
             }),
             sweeps::named_functions,
@@ -508,11 +509,74 @@ fn numbers_and_bytes() -> Vec<Mistake> {
         (
             "kind and record changed places",
             printing(|reply| {
-                told(reply, |Answer { code, kind, record, place }| {
-                    format!("{code} {record} {kind} {place}")
+                told(reply, |Answer { code, kind, record, place, pattern }| {
+                    format!("{code} {record} {kind} {place} {pattern}")
                 })
             }),
             sweeps::named_functions,
+        ),
+        (
+            "four numbers",
+            printing(|reply| {
+                told(reply, |Answer { code, kind, record, place, .. }| {
+                    format!("{code} {kind} {record} {place}")
+                })
+            }),
+            sweeps::named_functions,
+        ),
+        (
+            "the pattern only where it is not 0",
+            printing(|reply| {
+                told(reply, |answer| match answer.pattern {
+                    0 => numbers(answer).trim_end_matches(" 0").to_string(),
+                    _ => numbers(answer),
+                })
+            }),
+            sweeps::named_functions,
+        ),
+        (
+            "the pattern only where there is one",
+            printing(|reply| {
+                told(reply, |answer| match answer.code {
+                    7 | 14 => numbers(answer),
+                    _ => numbers(answer).rsplit_once(' ').expect("five numbers").0.to_string(),
+                })
+            }),
+            sweeps::named_functions,
+        ),
+        (
+            "the pattern before the place",
+            printing(|reply| {
+                told(reply, |Answer { code, kind, record, place, pattern }| {
+                    format!("{code} {kind} {record} {pattern} {place}")
+                })
+            }),
+            sweeps::named_functions,
+        ),
+        (
+            "the pattern always 0",
+            printing(|reply| told(reply, |answer| numbers(answer.naming(0)))),
+            sweeps::named_functions,
+        ),
+        (
+            "the pattern of 14 always 0",
+            printing(|reply| {
+                told(reply, |answer| match answer.code {
+                    14 => numbers(answer.naming(0)),
+                    _ => numbers(answer),
+                })
+            }),
+            sweeps::patterns,
+        ),
+        (
+            "the pattern as a signed byte",
+            printing(|reply| {
+                told(reply, |answer| {
+                    let numbers = numbers(answer.naming(0));
+                    format!("{} {}", &numbers[..numbers.len() - 2], answer.pattern as i8)
+                })
+            }),
+            sweeps::patterns,
         ),
         (
             "the code alone where it is not 0",

@@ -3,7 +3,7 @@
 use zap_tests::cases::{TextCase, CHECK_TEXTS, MATCH_TEXTS};
 use zap_tests::claims::trees::{refusal_of_length, split_everywhere, DEAD_AT_ONCE};
 use zap_tests::programs::run::Portions;
-use zap_tests::programs::sweeps::{self, longest_refusal};
+use zap_tests::programs::sweeps::{self, longest_refusal, some_patterns};
 use zap_tests::programs::{Program, Programs, Trial};
 use zap_tests::programs::{CHECK_CLAIM, MATCH_PAIR, NO_CODE, TOO_LONG};
 use zap_tests::reference::answer::{MATCH, NO_MATCH};
@@ -39,6 +39,9 @@ fn the_programs_print_as_the_reference() {
         (TOO_LONG, &[NO_CODE]),
     ];
     tally.require(&wanted, FLOOR);
+    let patterns: Vec<u64> = some_patterns().map(|pattern| pattern as u64).collect();
+    let lines = [MATCH_PAIR.clashes, CHECK_CLAIM.clashes, CHECK_CLAIM.disagreements];
+    tally.demand(&lines.map(|line| (line, &patterns[..])), 1);
 }
 
 // What 01 says of the programs, and some inputs worked out by hand from its rules:
@@ -70,10 +73,10 @@ fn the_longest_claims_that_are_checked() {
     let check = Programs::built().check_claim;
     let prints = |name, claim: &[u8], text| expect(name, &check, &[f, g, claim].concat(), text);
     let mut claim = refusal_of_length(49_151);
-    prints("cut", &claim[..49_150], "1 0 3 49150\n");
-    prints("right", &claim, "0 2 0 49151\n");
+    prints("cut", &claim[..49_150], "1 0 3 49150 0\n");
+    prints("right", &claim, "0 2 0 49151 0\n");
     claim.push(0);
-    prints("a byte more", &claim, "8 0 3 49151\n");
+    prints("a byte more", &claim, "8 0 3 49151 0\n");
     claim.push(0);
     prints("two bytes more", &claim, "too long\n");
 
@@ -82,8 +85,8 @@ fn the_longest_claims_that_are_checked() {
     // One of which all bytes are read, and more are missing.
     let mut endless = [&REFUSAL_MARK[..], &[6]].concat();
     split_everywhere(6, [[0; 3]; 2], &mut endless);
-    prints("one byte below", &endless[..49_151], "1 0 3 49151\n");
-    prints("as long as may be", &endless[..49_152], "1 0 3 49152\n");
+    prints("one byte below", &endless[..49_151], "1 0 3 49151 0\n");
+    prints("as long as may be", &endless[..49_152], "1 0 3 49152 0\n");
     prints("one byte above", &endless[..49_153], "too long\n");
 }
 
@@ -95,8 +98,8 @@ fn a_refusal_that_fits_and_one_that_does_not() {
     let mut claim = [&REFUSAL_MARK[..], &[4]].concat();
     split_everywhere(4, [[1, 0, 0], [1, 0, 1]], &mut claim);
     split_everywhere(4, [[0, 0, 1], [0, 0, 0]], &mut claim);
-    let text = format!("0 2 0 2805\n{}\n", hex(&claim));
+    let text = format!("0 2 0 2805 0\n{}\n", hex(&claim));
     expect("4 inputs", &find, &longest_refusal(4, true).concat(), &text);
     // With 6 inputs one has 1 + 12·(1 + 10·1,401) = 168,133.
-    expect("6 inputs", &find, &longest_refusal(6, true).concat(), "18 0 4 336269\n");
+    expect("6 inputs", &find, &longest_refusal(6, true).concat(), "18 0 4 336269 0\n");
 }

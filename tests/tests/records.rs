@@ -2,14 +2,18 @@
 
 use zap_tests::calls::{self, ARCHIVE};
 use zap_tests::cases::{FAULTS, READINGS, SUMMARIES, WRITINGS};
+use zap_tests::patterns::OF_CLASH;
 use zap_tests::records::{sweeps, Trial};
 use zap_tests::records::{FAULT_EMPTY, FAULT_OF_F, FAULT_OF_G, READ, SUMMARY, WRITE};
+use zap_tests::records::{OTHER_PATTERN, PATTERNS};
 use zap_tests::reference::answer::Answer;
 use zap_tests::show::{self, hex};
 use zap_tests::tally;
 
-/// Each call gave each code that it can give at least so often.
+/// Each call gave each code that it can give at least so often, and with code 7 each
+/// pattern of 8 inputs.
 const FLOOR: u64 = 100;
+const FLOOR_OF_A_PATTERN: u64 = 4;
 
 #[test]
 fn every_call_answers_as_the_reference() {
@@ -19,15 +23,19 @@ fn every_call_answers_as_the_reference() {
             sweep(&mut trial).map(|()| trial.tally)
         }
     }));
-    let wanted: [(_, &[u64]); 6] = [
+    let mistakes: Vec<u64> = (0..OF_CLASH.len() as u64).collect();
+    let wanted: [(_, &[u64]); 7] = [
         (READ, &[0, 1, 2, 3, 4, 5, 6, 7, 8]),
         (SUMMARY, &[0, 1, 2, 3, 4, 5, 6, 7, 8]),
         (WRITE, &[0, 3, 4, 5, 6, 7, 18, 19]),
         (FAULT_OF_F, &[5, 6, 7]),
         (FAULT_OF_G, &[5, 6, 7]),
         (FAULT_EMPTY, &[0, 1, 2, 3, 4, 8]),
+        (OTHER_PATTERN, &mistakes),
     ];
     tally.require(&wanted, FLOOR);
+    let all: Vec<u64> = (0..256).collect();
+    tally.demand(&PATTERNS.map(|line| (line, &all[..])), FLOOR_OF_A_PATTERN);
 }
 
 // The cases that 01 names, and some worked out by hand from its rules: neither

@@ -4,6 +4,7 @@
 //! call. The sweep named beside it has to notice; the reference itself passes.
 
 use zap_tests::calls::TableCalls;
+use zap_tests::patterns::OF_CLASH;
 use zap_tests::reference::answer::Answer;
 use zap_tests::reference::pattern::{Cube, Function};
 use zap_tests::reference::record::{function, record, CUBES};
@@ -11,7 +12,7 @@ use zap_tests::reference::table::{lines, read_table, reading, table, words, writ
 use zap_tests::tables::order::{first_lines, rules_of_order};
 use zap_tests::tables::sweeps::{self, Sweep};
 use zap_tests::tables::Trial;
-use zap_tests::wrong::all_noticed;
+use zap_tests::wrong::{all_noticed, lists, misnamed};
 
 type Call = fn(&[u8], &mut [u8]) -> u64;
 type Mistake = (&'static str, TableCalls, Sweep);
@@ -30,7 +31,9 @@ fn put((answer, written): (Answer, Option<Vec<u8>>), out: &mut [u8]) -> u64 {
 
 #[test]
 fn the_reference_passes() {
-    for sweep in [rules_of_order, first_lines, sweeps::buffers, sweeps::all_bytes] {
+    let sweeps: [Sweep; 5] =
+        [rules_of_order, first_lines, sweeps::buffers, sweeps::all_bytes, sweeps::clashes];
+    for sweep in sweeps {
         assert_eq!(sweep(&mut Trial::new(RIGHT)), Ok(()));
     }
 }
@@ -40,8 +43,12 @@ fn every_mistake_is_noticed() {
     let reader = |(name, read, sweep)| (name, TableCalls { read, ..RIGHT }, sweep);
     let writer = |(name, write, sweep)| (name, TableCalls { write, ..RIGHT }, sweep);
     let texts = other_texts().into_iter().chain(other_answers()).chain(other_functions());
-    let mistakes: Vec<Mistake> =
-        texts.map(reader).chain(writer_mistakes().into_iter().map(writer)).collect();
+    let (of_reader, of_writer) = other_patterns();
+    let mistakes: Vec<Mistake> = texts
+        .chain(of_reader)
+        .map(reader)
+        .chain(writer_mistakes().into_iter().chain(of_writer).map(writer))
+        .collect();
     assert!(mistakes.len() > 60, "{}", mistakes.len());
     all_noticed(mistakes, Trial::new);
 }
@@ -555,6 +562,61 @@ fn other_answers() -> Vec<Wrong> {
             sweeps::buffers,
         ),
     ]
+}
+
+// ---- Another pattern ----
+
+/// The reader and the writer with the wrong pattern of this number.
+fn misnaming<const MISTAKE: usize>() -> [Call; 2] {
+    let read: Call = |text, out| {
+        let (_, wrong) = OF_CLASH[MISTAKE];
+        tell(text, out, |right| misnamed(wrong, || reading(text).function(), CUBES, right))
+    };
+    let write: Call = |record, out| {
+        let (_, wrong) = OF_CLASH[MISTAKE];
+        let (answer, text) = write_table(record, out.len());
+        put((misnamed(wrong, || lists(record), CUBES, answer), text), out)
+    };
+    [read, write]
+}
+
+/// Those of the reader, and those of the writer.
+fn other_patterns() -> (Vec<Wrong>, Vec<Wrong>) {
+    let misnaming = [
+        misnaming::<0>(),
+        misnaming::<1>(),
+        misnaming::<2>(),
+        misnaming::<3>(),
+        misnaming::<4>(),
+        misnaming::<5>(),
+        misnaming::<6>(),
+    ];
+    assert_eq!(misnaming.len(), OF_CLASH.len());
+    let (mut of_reader, mut of_writer): (Vec<Wrong>, Vec<Wrong>) = (vec![], vec![]);
+    for ((name, _), [read, write]) in OF_CLASH.into_iter().zip(misnaming) {
+        of_reader.push((name, read, sweeps::clashes));
+        of_writer.push((name, write, sweeps::clashes));
+    }
+    of_reader.push((
+        "a pattern left in an accepted answer",
+        |t, out| {
+            tell(t, out, |right| match right.code {
+                0 => right.naming(1),
+                _ => right,
+            })
+        },
+        sweeps::short_lines,
+    ));
+    of_writer.push((
+        "a pattern left in an accepted answer",
+        |r, out| {
+            let (answer, text) = write_table(r, out.len());
+            let pattern = if answer.code == 0 { 1 } else { answer.pattern };
+            put((Answer { pattern, ..answer }, text), out)
+        },
+        sweeps::there_and_back,
+    ));
+    (of_reader, of_writer)
 }
 
 // ---- Readers that make another function of it ----

@@ -2,12 +2,14 @@
 
 use zap_tests::calls::{self, TABLE_CALLS};
 use zap_tests::cases::{NAMED, READINGS};
+use zap_tests::patterns::OF_CLASH;
 use zap_tests::reference::answer::Answer;
 use zap_tests::show::{self, hex};
 use zap_tests::tables::cases::{TABLES, TABLES_OF_NAMED};
 use zap_tests::tables::{order, sweeps, Trial};
 use zap_tests::tables::{BACK, BEFORE, CLASH, OVER, READ, RULE, TOO_MANY, WRITE};
 use zap_tests::tables::{EMPTY, EXACT, LONGER, ONE_SHORT};
+use zap_tests::tables::{OTHER_PATTERN, PATTERNS};
 use zap_tests::tally;
 
 /// Each answer came at least so often, and each side of each rule of order.
@@ -22,7 +24,9 @@ fn the_calls_answer_as_the_reference() {
         }
     }));
     let rules: Vec<u64> = (0..order::RULES as u64).collect();
+    let mistakes: Vec<u64> = (0..OF_CLASH.len() as u64).collect();
     let mut wanted: Vec<(_, &[u64])> = vec![
+        (OTHER_PATTERN, &mistakes),
         (READ, &[0, 3, 4, 7, 18, 20, 21, 22]),
         (TOO_MANY, &[3, 4]),
         (CLASH, &[0, 1, 2, 3]),
@@ -65,6 +69,9 @@ fn the_calls_answer_as_the_reference() {
     tally.require(&wanted, FLOOR);
     // Each cube of a full list.
     tally.demand(&[(CLASH, &(0..64).collect::<Vec<_>>())], 20);
+    // Each pattern of 8 inputs.
+    let all: Vec<u64> = (0..256).collect();
+    tally.demand(&PATTERNS.map(|line| (line, &all[..])), 1);
 }
 
 // The cases that the readings of the request name, and some worked out by hand from its

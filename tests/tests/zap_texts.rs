@@ -17,6 +17,7 @@ const CONJ: &str = "46 4E 02 01 02 03 00 00 01 00 02";
 const DISJ: &str = "46 4E 02 02 01 01 00 02 00 00 03";
 const ODD: &str = "46 4E 02 02 02 01 02 02 01 03 00 00 03";
 const WIRE: &str = "46 4E 01 01 01 01 00 00 01";
+const MUX: &str = "46 4E 03 02 02 01 04 06 00 00 05 04 02";
 const CONJ_ODD: &str = "52 46 02 FF 01 00 01 01 00 00 01 00 00 01 00 01 \
                         FF 01 00 01 01 00 00 01 00 01 01 00 00";
 
@@ -26,16 +27,24 @@ fn expect<C: AsRef<[u8]>>(golden: &str, files: &[(&str, C)], words: &str, status
     for (name, content) in files {
         folder.write(name, content);
     }
-    let file = Path::new(env!("CARGO_MANIFEST_DIR")).join("golden").join(golden);
-    let out = fs::read_to_string(file).expect("a golden text");
+    let out = self::golden(golden);
     assert_eq!(folder.zap(words), Ran { out, err: String::new(), status }, "{golden}: {words}");
 }
 
+fn golden(name: &str) -> String {
+    let file = Path::new(env!("CARGO_MANIFEST_DIR")).join("golden").join(name);
+    fs::read_to_string(file).expect("a golden text")
+}
+
 /// Two functions and a claim in files of these names, explained.
-fn expect_explained(golden: &str, [f, g, claim]: [[&str; 2]; 3], more: &str, status: i32) {
-    let files = [f, g, claim].map(|[name, content]| (name, content));
+fn expect_explained(golden: &str, files: [[&str; 2]; 3], more: &str, status: i32) {
+    expect_of_three(golden, "explain", files, more, status);
+}
+
+fn expect_of_three(golden: &str, verb: &str, files: [[&str; 2]; 3], more: &str, status: i32) {
+    let files = files.map(|[name, content]| (name, content));
     let names = files.map(|(name, _)| name).join(" ");
-    expect(golden, &files, &format!("explain {names}{more}"), status);
+    expect(golden, &files, &format!("{verb} {names}{more}"), status);
 }
 
 /// By the table of section 1: on at 3 alone, off at 0, 1 and 2. A row is x1, a column
@@ -97,6 +106,39 @@ fn a_refused_function_shown() {
     expect("show-refused.txt", &[("bad.hex", bad)], "show bad.hex", 2);
 }
 
+/// On are x0·x1'·x2', which shares nothing, x1, and x0'; off are x0·x1, x1·x2' and x0'·x1'.
+/// x1, at 5 + 2, shares 3 with the first of these, and with the second the smaller 2. That
+/// x0' shares 0 with the third is no matter.
+#[test]
+fn an_on_cube_that_meets_an_off_cube_shown() {
+    let bad = "46 4E 03 03 03 01 06 02 00 00 01 03 00 02 04 00 03";
+    for words in ["show bad.hex", "record bad.hex", "table bad.hex"] {
+        expect("show-on-and-off.txt", &[("bad.hex", bad)], words, 2);
+    }
+    expect("show-on-and-off.json", &[("bad.hex", bad)], "show bad.hex --json", 2);
+
+    // The same of any function that is asked for.
+    let shown = golden("show-on-and-off.txt");
+    let first = shown.lines().next().expect("a line");
+    let fault = first.strip_prefix("refused: bad.hex, taken for hex: ").expect("its fault");
+    let folder = Folder::new();
+    for (name, content) in [("bad.hex", bad), ("mux.hex", MUX), ("claim.hex", "4D 54")] {
+        folder.write(name, content);
+    }
+    for (words, whose) in [
+        ("summary bad.hex", "bad.hex, taken for hex: refused: "),
+        ("match bad.hex mux.hex", "refused: f (bad.hex, taken for hex): "),
+        ("match mux.hex bad.hex", "refused: g (bad.hex, taken for hex): "),
+        ("match mux.hex mux.hex bad.hex", "bad.hex, taken for hex: refused: "),
+        ("check mux.hex bad.hex claim.hex", "refused: g (bad.hex, taken for hex): "),
+        ("explain bad.hex mux.hex claim.hex", "refused: f (bad.hex, taken for hex): "),
+    ] {
+        let ran = folder.zap(words);
+        let line = format!("{whose}{fault}");
+        assert!(ran.status == 2 && ran.out.lines().any(|told| told == line), "{words}: {ran:?}");
+    }
+}
+
 /// By the table of section 5: f is read at 3, 2, 1 and 0, is on at 3 alone, and q = 1
 /// asks the opposite of g.
 #[test]
@@ -113,6 +155,36 @@ fn a_disagreement_explained() {
     let claim = "4D 54 01 00 10";
     let files = [["wire.hex", WIRE], ["wire.hex", WIRE], ["claim.hex", claim]];
     expect_explained("explain-disagreement.txt", files, "", 1);
+}
+
+/// By the table of section 4, in which f is MuxOpen: where that is open, at y = 6 and
+/// x = 5, the multiplexor is off and the AND-OR cell is on.
+#[test]
+fn a_disagreement_checked() {
+    let and_or = "46 4E 03 02 02 03 00 04 00 00 05 00 06";
+    let claim = "4D 54 03 00 02 00 01";
+    let files = [["mux.hex", MUX], ["and-or.hex", and_or], ["claim.hex", claim]];
+    expect_of_three("check-disagreement.txt", "check", files, "", 1);
+    expect_of_three("check-disagreement.json", "check", files, " --json", 1);
+}
+
+/// g is the cell of above with its output inverted, and its input 1: on for x0'·x2' and
+/// x1·x2', off for x0·x1' and x2. So is the wiring: x0 is y2, x1 is y0, x2 is y1 inverted,
+/// and q is 1. Then y = 6 of above is y = 4 here, x is 5 again, and both are off. Row by
+/// row, x0 x1 x2 are y2, y0 and the opposite of y1; f is x0 if x2 is 0, and else x1.
+#[test]
+fn a_disagreement_with_the_output_inverted_explained() {
+    let g = "46 4E 03 02 02 00 05 02 04 01 02 04 00";
+    let claim = "4D 54 03 01 02 00 11";
+    let files = [["mux.hex", MUX], ["and-nor.hex", g], ["claim.hex", claim]];
+    expect_explained("explain-disagreement-inverted.txt", files, "", 1);
+    // What `check` says stands before the picture.
+    let explained = golden("explain-disagreement-inverted.txt");
+    let (checked, _) = explained.split_once("\n\n  f ").expect("a picture");
+    let folder = Folder::new();
+    files.iter().for_each(|[name, content]| drop(folder.write(name, content)));
+    let ran = folder.zap("check mux.hex and-nor.hex claim.hex");
+    assert_eq!(ran, Ran { out: format!("{checked}\n"), err: String::new(), status: 1 });
 }
 
 /// Bytes 4 and 5 are both y0 inverted; the second is at fault.
@@ -236,12 +308,13 @@ fn too_many_terms_shown() {
     expect_refused_table("show-65-terms.txt", text);
 }
 
-/// x0' and x0·x2' share nothing. x1 and x0·x2' share x0·x1·x2', which is the inputs 110.
-/// x1 is on cube 1, at 5 + 2.
+/// x0' and x0·x2' share nothing. x1 and x0·x2' share x0·x1·x2', which is pattern 3. x1 is
+/// on cube 1, at 5 + 2.
 #[test]
 fn a_shared_pattern_shown() {
     let text = ".i 3\n.o 1\n.type fr\n1-0 0\n0-- 1\n-1- 1\n.e\n";
     expect_refused_table("show-shared-pattern.txt", text);
+    expect("show-shared-pattern.json", &[("bad.pla", text)], "show bad.pla --json", 2);
 }
 
 /// Where it is g, its answer has record 2.

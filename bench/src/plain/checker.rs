@@ -25,7 +25,7 @@ struct Reader<'a> {
 }
 
 fn refused(code: u8, place: usize) -> Refusal {
-    Refusal { code, record: CLAIM, place }
+    Refusal::new(code, CLAIM, place)
 }
 
 impl Reader<'_> {
@@ -83,16 +83,20 @@ impl Reader<'_> {
             }
             wiring = wiring.place(j, inverted);
         }
-        let agrees = self.lists[q as usize].iter().all(|(of_f, of_g)| {
-            of_f.iter().all(|one| {
+        let mut smallest = None;
+        for (of_f, of_g) in self.lists[q as usize] {
+            for one in of_f.iter() {
                 let carried = wiring.carry(one);
-                of_g.iter().all(|other| carried.apart(other))
-            })
-        });
-        if agrees {
-            Ok(())
-        } else {
-            Err(refused(14, 0))
+                // What it shares with any cube is no smaller than its own P.
+                if smallest.is_none_or(|smallest| carried.p < smallest) {
+                    let shared = of_g.smallest_shared(carried);
+                    smallest = smallest.into_iter().chain(shared).min();
+                }
+            }
+        }
+        match smallest {
+            Some(pattern) => Err(Refusal { pattern, ..refused(14, 0) }),
+            None => Ok(()),
         }
     }
 

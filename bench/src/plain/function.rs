@@ -41,17 +41,34 @@ impl<'a> Cubes<'a> {
         self.0.as_flattened()
     }
 
-    /// The first cube that has a pattern in common with some cube of the other list.
-    pub fn first_shared(self, other: Cubes) -> Option<usize> {
-        self.0.iter().position(|&[p, n]| {
-            // P against N and N against P as one mask, and no early end: so several cubes
-            // are tested at once.
-            let opposite = u16::from_ne_bytes([n, p]);
-            other
-                .0
-                .iter()
-                .fold(false, |any, &cube| any | (opposite & u16::from_ne_bytes(cube) == 0))
-        })
+    /// The smallest pattern that some cube has in common with this one: all that either
+    /// asks to be 1, and no more.
+    pub fn smallest_shared(self, cube: Cube) -> Option<u8> {
+        if !self.any_shared(cube) {
+            return None;
+        }
+        let opposite = u16::from_ne_bytes([cube.n, cube.p]);
+        let smallest = self.0.iter().fold(i16::MAX, |smallest, &other| {
+            let apart = opposite & u16::from_ne_bytes(other) != 0;
+            let pattern = i16::from(cube.p | other[0]);
+            smallest.min(if apart { i16::MAX } else { pattern })
+        });
+        Some(smallest as u8)
+    }
+
+    /// Whether some cube has a pattern in common with this one.
+    fn any_shared(self, cube: Cube) -> bool {
+        // P against N and N against P as one mask, and no early end: so several cubes are
+        // tested at once.
+        let opposite = u16::from_ne_bytes([cube.n, cube.p]);
+        self.0.iter().fold(false, |any, &other| any | (opposite & u16::from_ne_bytes(other) == 0))
+    }
+
+    /// The first cube that has a pattern in common with some cube of the other list, and
+    /// the smallest such pattern.
+    pub fn first_shared(self, other: Cubes) -> Option<(usize, u8)> {
+        let mut all = self.iter().enumerate();
+        all.find_map(|(index, cube)| other.smallest_shared(cube).map(|pattern| (index, pattern)))
     }
 
     fn split_at(self, index: usize) -> (Cubes<'a>, Cubes<'a>) {
@@ -85,14 +102,14 @@ pub const LONGEST_LIST: usize = 64;
 pub fn read_two<'a>(f: &'a [u8], g: &'a [u8]) -> Result<Two<'a>, Refusal> {
     let (f, g) = (read(f, F)?, read(g, G)?);
     if f.n != g.n {
-        return Err(Refusal { code: 9, record: G, place: 2 });
+        return Err(Refusal::new(9, G, 2));
     }
     let lists = [[(f.on, g.off), (f.off, g.on)], [(f.on, g.on), (f.off, g.off)]];
     Ok(Two { n: f.n, lists })
 }
 
 pub fn read(bytes: &[u8], record: u8) -> Result<Function<'_>, Refusal> {
-    let refused = |code, place| Refusal { code, record, place };
+    let refused = |code, place| Refusal::new(code, record, place);
     let byte = |place: usize| bytes.get(place).copied().ok_or(refused(1, bytes.len()));
 
     if byte(0)? != 0x46 {
@@ -132,7 +149,7 @@ pub fn read(bytes: &[u8], record: u8) -> Result<Function<'_>, Refusal> {
     }
     let (on, off) = cubes.split_at(a);
     match on.first_shared(off) {
-        Some(index) => Err(refused(7, CUBES + 2 * index)),
+        Some((index, pattern)) => Err(Refusal { pattern, ..refused(7, CUBES + 2 * index) }),
         None => Ok(Function { n, on, off }),
     }
 }

@@ -138,7 +138,7 @@ impl List {
 
     /// All of them, if they are not too many; else the place of their number is told.
     fn cubes(&self, place: usize) -> Result<Cubes<'_>, Refusal> {
-        let cubes = self.cubes.get(..self.length).ok_or(Refusal { code: 4, record: F, place })?;
+        let cubes = self.cubes.get(..self.length).ok_or(Refusal::new(4, F, place))?;
         Ok(Cubes(cubes))
     }
 }
@@ -172,11 +172,11 @@ impl Table {
             match ended {
                 Ok(true) => return Ok(()),
                 Ok(false) => text.skip(),
-                Err(code) => return Err(Refusal { code, record: F, place: line }),
+                Err(code) => return Err(Refusal::new(code, F, line)),
             }
             line += 1;
         }
-        Err(Refusal { code: 21, record: F, place: line })
+        Err(Refusal::new(21, F, line))
     }
 
     /// n, if the keywords are complete.
@@ -245,8 +245,8 @@ impl Table {
     fn put(&self, out: &mut [u8]) -> Result<usize, Refusal> {
         let [off, on] = &self.lists;
         let (on, off) = (on.cubes(3)?, off.cubes(4)?);
-        if let Some(index) = on.first_shared(off) {
-            return Err(Refusal { code: 7, record: F, place: CUBES + 2 * index });
+        if let Some((index, pattern)) = on.first_shared(off) {
+            return Err(Refusal { pattern, ..Refusal::new(7, F, CUBES + 2 * index) });
         }
         let n = self.n.unwrap_or_default();
         let head = [0x46, 0x4E, n, on.len() as u8, off.len() as u8];

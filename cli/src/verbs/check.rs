@@ -16,7 +16,7 @@ pub const VERB: Verb = Verb {
     usage: "F G CLAIM",
     about: "checks a claim about two functions: a match, or a refusal",
     options: &[],
-    more: "A match is accepted exactly if the functions agree under its wiring, a refusal exactly if its trees prove that no\nwiring agrees. A refused claim is told by code and byte; `zap explain` shows more of it.\n",
+    more: "A match is accepted exactly if the functions agree under its wiring, a refusal exactly if its trees prove that no\nwiring agrees. A refused claim is told by code and byte, a wiring that does not agree by the first pattern of g at\nwhich the functions disagree; `zap explain` shows more of it.\n",
     run,
 };
 

@@ -4,7 +4,7 @@ use zap_calls::Answer;
 
 use super::{check, indented, take_three, Verb};
 use crate::args::{Args, Opt};
-use crate::claim::{below_words, Choice, Counts, Node, Pair, Walk, What, Wiring};
+use crate::claim::{below_words, Both, Choice, Counts, Node, Pair, Walk, What, Wiring};
 use crate::function::{bits, Function, Value};
 use crate::json::{quoted, Object};
 use crate::output::{trouble, Colour, Out, Trouble};
@@ -122,18 +122,12 @@ impl Shown<'_> {
     // ---- Matches ----
 
     /// What both specify: g's pattern, f's, what f asks of g, and what g gives.
-    fn both_specify(&self, wiring: &Wiring) -> Result<Vec<Row>, Trouble> {
-        let row = |y| {
-            let x = wiring.read(y);
-            let (f, g) = (self.f.value(x), self.g.value(y));
-            let asked = if wiring.q == 1 { f.inverted() } else { f };
-            Row { y, x, f, asked, g }
-        };
-        let rows = (0..self.g.patterns()).map(row);
-        let rows: Vec<Row> =
-            rows.filter(|row| row.f != Value::Open && row.g != Value::Open).collect();
+    fn both_specify(&self, wiring: &Wiring) -> Result<Vec<Both>, Trouble> {
+        let all = (0..self.g.patterns()).map(|y| wiring.both(&self.f, &self.g, y));
+        let rows: Vec<Both> = all.filter(Both::are_specified).collect();
         // The archive decides; the table only shows what it says.
-        if rows.iter().any(|row| row.asked != row.g) != (self.answer.code == 14) {
+        let told = (self.answer.code == 14).then_some(self.answer.pattern as usize);
+        if rows.iter().find(|row| row.disagree()).map(|row| row.y) != told {
             return trouble("the table of patterns and the archive's answer differ");
         }
         Ok(rows)
@@ -150,16 +144,17 @@ impl Shown<'_> {
         out.line("");
         let wide = n.max(4);
         out.line(&format!("    g at  {:wide$}    f at  {:wide$}    f  asks  g", "", ""));
-        for Row { y, x, f, asked, g } in rows {
-            let [f, asked_sign, g_sign] = [f, asked, g].map(Value::sign);
+        for row in rows {
+            let Both { y, x, f, asked, g, .. } = row;
+            let [f, asked, g] = [f, asked, g].map(Value::sign);
             let line = format!(
-                "    {y:>4}  {:wide$}    {x:>4}  {:wide$}    {f}   {asked_sign}    {g_sign}",
+                "    {y:>4}  {:wide$}    {x:>4}  {:wide$}    {f}   {asked}    {g}",
                 bits(y, n),
                 bits(x, n)
             );
-            out.line(&match asked == g {
-                true => line,
-                false => format!("{line}  {}", out.paint(Colour::Bad, "<- they disagree")),
+            out.line(&match row.disagree() {
+                true => format!("{line}  {}", out.paint(Colour::Bad, "<- they disagree")),
+                false => line,
             });
         }
         Ok(())
@@ -250,15 +245,7 @@ impl Shown<'_> {
         }
         if self.is_match() {
             let rows = self.both_specify(&Wiring::of(self.claim))?;
-            let row = |row: &Row| {
-                let object = Object::inner().number("g_at", row.y).number("f_at", row.x);
-                let values = [("f", row.f), ("asks", row.asked), ("g", row.g)];
-                let with = |o: Object, (name, value): (&str, Value)| {
-                    o.text(name, &value.sign().to_string())
-                };
-                values.into_iter().fold(object, with).end()
-            };
-            return Ok(object.list("patterns", rows.iter().map(row)));
+            return Ok(object.list("patterns", rows.iter().map(Both::object)));
         }
         out.text(&object.open("nodes"));
         let walk = Walk::new(self.claim, self.stop());
@@ -290,14 +277,6 @@ impl Shown<'_> {
         }
         .end()
     }
-}
-
-struct Row {
-    y: usize,
-    x: usize,
-    f: Value,
-    asked: Value,
-    g: Value,
 }
 
 fn table(counts: [Counts; 2], out: &mut Out) {

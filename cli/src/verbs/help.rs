@@ -12,7 +12,7 @@ pub const VERB: Verb = Verb {
     usage: "[VERB | codes]",
     about: "tells how a verb is used, or what each code of a refusal means",
     options: &[],
-    more: "Without a word it lists the verbs. `zap help codes` has every code of a refusal, and what the place beside it\ntells.\n",
+    more: "Without a word it lists the verbs. `zap help codes` has every code of a refusal, and what the place and the\npattern beside it tell.\n",
     run,
 };
 
@@ -52,15 +52,21 @@ fn object(Verb { name, usage, about, .. }: &Verb) -> Object {
 
 fn codes(json: bool, out: &mut Out) {
     if !json {
-        out.line("code  given when, and the place beside it");
+        out.line("code  given when, the place beside it, and the pattern if it is not always 0");
     }
-    for Code { number, words, place } in CODES {
+    for Code { number, words, place, pattern } in CODES {
         if json {
             let object = Object::new(VERB.name).text("result", "code");
             let object = object.raw("code", &number.to_string());
-            out.line(&object.text("words", words).text("place", place).end());
+            let object = object.text("words", words).text("place", place);
+            let object = match pattern {
+                Some(pattern) => object.text("pattern", pattern),
+                None => object,
+            };
+            out.line(&object.end());
         } else {
-            out.line(&format!("{number:>4}  {words}: {place}"));
+            let pattern = pattern.map_or(String::new(), |pattern| format!("; pattern: {pattern}"));
+            out.line(&format!("{number:>4}  {words}: {place}{pattern}"));
         }
     }
 }

@@ -11,7 +11,7 @@ use lib.ListN.{length, getD}
 use Rattle.bits.proofs.Tests.{cond-cases}
 use Rattle.answers.specs.declared.Fault.{Fault}
 use Rattle.answers.specs.declared.Answer.{Answer}
-use Rattle.answers.specs.Answers.{fault, sound, is-sound, refused, _then_, _or-else_, by, present, byte-fault, length-fault}
+use Rattle.answers.specs.Answers.{fault, fault-at, sound, is-sound, refused-by, _then_, _or-else_, by, present, byte-fault, length-fault, fits}
 
 -- a fault that was found is what the definition says: both are sound, or neither is
 pub sound-as : {f g : Fault} → f ≡ g → f .code ≡ 0 → g .code ≡ 0
@@ -71,10 +71,10 @@ unfolding by
 by-next who f g a next e z h =
     h ∙ sym (next-chosen (g .code) next _ (sound-as e z))
 
-pub by-stop : (who : ℕ) (f g : Fault) (a next : Answer) → f ≡ g → (f .code ≡ 0 → ⊥) → a ≡ refused (f .code) who (f .place) → a ≡ by who g next
+pub by-stop : (who : ℕ) (f g : Fault) (a next : Answer) → f ≡ g → (f .code ≡ 0 → ⊥) → a ≡ refused-by who f → a ≡ by who g next
 unfolding by
 by-stop who f g a next e z h =
-    h ∙ ap (λ (f : Fault). refused (f .code) who (f .place)) e
+    h ∙ ap (refused-by who) e
     ∙ sym (this-chosen (g .code) next _ (bad-as e z))
 
 pub or-else-next : (a b : Answer) → a .code ≡ 0 → a or-else b ≡ b
@@ -97,16 +97,16 @@ then-both f g = chosen (λ (f : Fault). f .code) (f .code) g f refl
 
 pub by-both : (who : ℕ) (f : Fault) (next : Answer) → by who f next .code ≡ 0 → (f .code ≡ 0) × (next .code ≡ 0)
 unfolding by
-by-both who f next = chosen (λ (a : Answer). a .code) (f .code) next (refused (f .code) who (f .place)) refl
+by-both who f next = chosen (λ (a : Answer). a .code) (f .code) next (refused-by who f) refl
 
 pub or-else-both : (a b : Answer) → (a or-else b) .code ≡ 0 → (a .code ≡ 0) × (b .code ≡ 0)
 unfolding _or-else_
 or-else-both a b = chosen (λ (a : Answer). a .code) (a .code) b a refl
 
 -- a test that gives no fault passes
-pub test-sound : (t : Bool) (code at : ℕ) → cond t sound (fault (suc code) at) .code ≡ 0 → t ≡ true
-test-sound true code at e = refl
-test-sound false code at e = absurd (omega (arith, e))
+pub test-sound : (t : Bool) (code at pattern : ℕ) → cond t sound (fault-at (suc code) at pattern) .code ≡ 0 → t ≡ true
+test-sound true code at pattern e = refl
+test-sound false code at pattern e = absurd (omega (arith, e))
 
 -- a header byte that is sound is there, and from low to high
 pub record Byte (s : List ℕ) (k low high : ℕ) : Type 0 where
@@ -175,3 +175,32 @@ byte-place s k low high code = byte-cases (λ f. f .place ≤ k) s k low high co
 
 pub length-place : (len end : ℕ) → length-fault len end .place ≤ end
 length-place len end = length-cases (λ f. f .place ≤ end) len end zero-le (λ h. omega arith) (le-refl end)
+
+-- ---- patterns: the codes 7 and 14 name one, and no other code does
+
+-- neither of the two
+abbrev pub Plain : ℕ → Type 0
+Plain code = (code ≡ 7 → ⊥) × (code ≡ 14 → ⊥)
+
+-- a number that is none of them, by computing
+pub plain : (code : ℕ) → eqb code 7 ≡ false → eqb code 14 ≡ false → Plain code
+plain code a b = (eqb-false code 7 a, eqb-false code 14 b)
+
+-- the pattern is 0 wherever the code is neither
+abbrev pub Kept : ℕ → ℕ → Type 0
+Kept code pattern = Plain code → pattern ≡ 0
+
+abbrev KeptBy : Answer → Type 0
+KeptBy a = Kept (a .code) (a .pattern)
+
+pub by-kept : (who : ℕ) (f : Fault) (next : Answer) → Kept (f .code) (f .pattern) → KeptBy next → KeptBy (by who f next)
+unfolding by
+by-kept who f next this later = cond-cases KeptBy (is-sound f) next (refused-by who f) later this
+
+pub or-else-kept : (a b : Answer) → KeptBy a → KeptBy b → KeptBy (a or-else b)
+unfolding _or-else_
+or-else-kept a b this later = cond-cases KeptBy (eqb (a .code) 0) b a later this
+
+pub fits-kept : (kind room needed : ℕ) → KeptBy (fits kind room needed)
+unfolding fits
+fits-kept kind room needed = cond-cases KeptBy (ltb room needed) _ _ (λ _. refl) (λ _. refl)

@@ -7,6 +7,8 @@ use Rattle.answers.proofs.accepted.Kinds as accepted-kinds
 use Rattle.answers.proofs.accepted.Reads as accepted
 use Rattle.answers.proofs.refused.Kinds as refused-kinds
 use Rattle.answers.proofs.refused.Reads as refused
+use Rattle.answers.proofs.refused_by.Kinds as refused-by-kinds
+use Rattle.answers.proofs.refused_by.Reads as refused-by
 use Rattle.answers.proofs.byte_fault.Kinds as byte-fault-kinds
 use Rattle.answers.proofs.byte_fault.Reads as byte-fault
 use Rattle.answers.proofs.then_byte.Kinds as then-byte-kinds
@@ -29,6 +31,9 @@ accepted-settled κs a r₁ r₂ s₁ s₂ p q = p ∙ sym q
 
 pub refused-settled : Settled 0 refused-kinds.ps refused-kinds.r refused.Post
 refused-settled κs a r₁ r₂ s₁ s₂ p q = p ∙ sym q
+
+pub refused-by-settled : Settled 0 refused-by-kinds.ps refused-by-kinds.r refused-by.Post
+refused-by-settled κs a r₁ r₂ s₁ s₂ p q = p ∙ sym q
 
 pub byte-fault-settled : Settled 1 byte-fault-kinds.ps byte-fault-kinds.r byte-fault.Post
 byte-fault-settled κs a r₁ r₂ s₁ s₂ p q = p ∙ sym q

@@ -6,7 +6,7 @@ use Rattle.answers.specs.declared.Answer.{Answer}
 use Rattle.answers.specs.Answers.{packed, most-told, told, Tells}
 
 abbrev with-place : Answer → ℕ → Answer
-with-place a place = record { code = a .code; kind = a .kind; «record» = a .«record»; place = place }
+with-place a place = record { code = a .code; kind = a .kind; «record» = a .«record»; place = place; pattern = a .pattern }
 
 pub told-fits : (a : Answer) → a .place ≤ most-told → told a ≡ a
 unfolding told

@@ -1,10 +1,10 @@
-// The four numbers of an answer, faults found while bytes are read in order, and writing into a lent buffer.
+// The five numbers of an answer, faults found while bytes are read in order, and writing into a lent buffer.
 ghost use mathlib.Core.Path.{_≡_};
 ghost use mathlib.Core.List.{[], _∷_};
 ghost use Prim.Native.Nat.{_+_, _^_, _≤_, _<_};
 ghost use lib.ListN.{length};
 ghost use lib.Seq.{sets};
-ghost use Rattle.answers.specs.Answers.{_then_, byte-fault, length-fault, stored-if-room, Leaves, packed, told, Tells};
+ghost use Rattle.answers.specs.Answers.{_then_, byte-fault, length-fault, refused-by, stored-if-room, Leaves, packed, told, Tells};
 ghost use Rattle.answers.specs.Answers.{accepted as accepting, refused as refusing};
 
 // What reader, summary, matcher, checker and writer answer.
@@ -13,12 +13,14 @@ pub struct Answer {
     pub kind: u8,
     pub record: u8,
     pub place: usize,
+    pub pattern: u8,
 }
 
-// A fault and its place in the bytes that were read; code 0 where there is none.
+// A fault, its place in the bytes that were read and the pattern that it names; code 0 where there is none.
 pub struct Fault {
     pub code: u8,
     pub place: usize,
+    pub pattern: u8,
 }
 
 pub fn accepted(kind: u8, place: usize) -> Answer
@@ -29,6 +31,7 @@ pub fn accepted(kind: u8, place: usize) -> Answer
         kind,
         record: 0,
         place,
+        pattern: 0,
     }
 }
 
@@ -40,6 +43,20 @@ pub fn refused(code: u8, who: u8, place: usize) -> Answer
         kind: 0,
         record: who,
         place,
+        pattern: 0,
+    }
+}
+
+// Refused for a fault in record `who`.
+pub fn refused_by(who: u8, fault: Fault) -> Answer
+    ensures { λ r. ⌜ r ≡ refused-by who fault ⌝ }
+{
+    Answer {
+        code: fault.code,
+        kind: 0,
+        record: who,
+        place: fault.place,
+        pattern: fault.pattern,
     }
 }
 
@@ -51,16 +68,29 @@ pub fn byte_fault(s: &[u8], k: usize, low: u8, high: u8, code: u8) -> Fault
         return Fault {
             code: 1,
             place: s.len(),
+            pattern: 0,
         };
     }
     let b = s[k];
     if b < low {
-        return Fault { code, place: k };
+        return Fault {
+            code,
+            place: k,
+            pattern: 0,
+        };
     }
     if high < b {
-        return Fault { code, place: k };
+        return Fault {
+            code,
+            place: k,
+            pattern: 0,
+        };
     }
-    Fault { code: 0, place: 0 }
+    Fault {
+        code: 0,
+        place: 0,
+        pattern: 0,
+    }
 }
 
 // The fault so far, or else that of byte k.
@@ -81,15 +111,21 @@ pub fn length_fault(len: usize, end: usize) -> Fault
         return Fault {
             code: 1,
             place: len,
+            pattern: 0,
         };
     }
     if end < len {
         return Fault {
             code: 8,
             place: end,
+            pattern: 0,
         };
     }
-    Fault { code: 0, place: 0 }
+    Fault {
+        code: 0,
+        place: 0,
+        pattern: 0,
+    }
 }
 
 // Stores the bytes into the buffer from `at` on.
@@ -130,7 +166,7 @@ pub fn store_three(numbers: &mut [u64], x: u64, y: u64, z: u64)
 
 // One number for a host.
 pub fn pack(answer: Answer) -> u64
-    requires { ⌜ answer .place < 2 ^ 40 ⌝ }
+    requires { ⌜ answer .place < 2 ^ 32 ⌝ }
     ensures { λ r. ⌜ r ≡ packed answer ⌝ }
     ensures { λ r. ⌜ Tells answer r ⌝ }
 {
@@ -138,11 +174,12 @@ pub fn pack(answer: Answer) -> u64
     let kind = answer.kind as u64;
     let record = answer.record as u64;
     let place = answer.place as u64;
-    code + 256 * kind + 65536 * record + 16777216 * place
+    let pattern = answer.pattern as u64;
+    code + 256 * kind + 65536 * record + 16777216 * place + 0x100_0000_0000_0000 * pattern
 }
 
 // The largest place that the number has room for.
-const MOST_TOLD: usize = 0xFF_FFFF_FFFF;
+const MOST_TOLD: usize = 0xFFFF_FFFF;
 
 // One number for a host, whatever the place: beyond the largest that fits, that one is told.
 pub fn tell(answer: Answer) -> u64
@@ -157,5 +194,6 @@ pub fn tell(answer: Answer) -> u64
         kind: answer.kind,
         record: answer.record,
         place: MOST_TOLD,
+        pattern: answer.pattern,
     })
 }

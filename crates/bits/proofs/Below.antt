@@ -49,6 +49,9 @@ module _ (p : ℕ → Bool) where
   pub any-none : (n : ℕ) → ((k : ℕ) → k < n → p k ≡ true → ⊥) → any n p ≡ false
   any-none n f = not-passed (any n p) (λ e. let w = any-at n e in f (w .0) (w .1) (w .2))
 
+  pub not-at : (n : ℕ) → any n p ≡ false → (k : ℕ) → k < n → p k ≡ false
+  not-at n e k h = not-passed (p k) (λ q. false≢true (sym e ∙ any-if n k h q))
+
   -- the numbers below n, and the m numbers from there on
   pub any-add : (n m : ℕ) → any (n + m) p ≡ any n p || any m (λ k. p (n + k))
   unfolding any

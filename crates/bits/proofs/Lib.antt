@@ -2,3 +2,7 @@ pub mod Tests
 pub mod Below
 pub mod Bit
 pub mod Mask
+pub mod Smallest
+pub mod Bytes
+pub mod Settled
+pub mod Lanes

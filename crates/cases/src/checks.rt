@@ -10,6 +10,9 @@ use crate::functions::WIRE;
 const CONJ_ODD: [u8; 29] =
     *b"\x52\x46\x02\xFF\x01\x00\x01\x01\x00\x00\x01\x00\x00\x01\x00\x01\xFF\x01\x00\x01\x01\x00\x00\x01\x00\x01\x01\x00\x00";
 
+// On cubes x0x1 and x0x1', and no off cube.
+const ON_TWICE: [u8; 9] = *b"\x46\x4E\x02\x02\x00\x03\x00\x01\x02";
+
 // The checker's answer, then the claim.
 pub fn check(name: &[u8], f: &[u8], g: &[u8], claim: &[u8]) {
     let answer = checker::check(f, g, claim);
@@ -64,6 +67,19 @@ pub fn matches() {
     conj_disj(b"\x4D\x54\x02\x01\x02\x12");
     conj_disj(b"\x4D\x54\x02\x01\x10\x00");
     conj_disj(b"\x4D\x54\x02\x01\x10\x12");
+}
+
+// Code 14 names the smallest pattern of g. Read through 01 10, Conj is on at 2 alone, so it disagrees with Disj at 1 and 3, where it
+// is read at 0 and 1. A function that is on at 3 and at 1, and nowhere off, disagrees with itself under q = 1 at both; the first pair
+// shares 3.
+pub fn disagreements() {
+    conj_disj(b"\x4D\x54\x02\x00\x01\x10");
+    check(
+        b"x0x1, x0x1' to itself",
+        &ON_TWICE,
+        &ON_TWICE,
+        b"\x4D\x54\x02\x01\x00\x01",
+    );
 }
 
 // Refusal trees: bytes in order, and nothing after them.

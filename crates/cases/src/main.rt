@@ -26,6 +26,10 @@ const SIX_THEN_FIVE: [u8; 9] = *b"\x46\x4E\x01\x02\x00\x01\x01\x02\x00";
 // The second on cube shares pattern 2 with the off cube.
 const CLASH: [u8; 11] = *b"\x46\x4E\x02\x02\x01\x01\x02\x02\x00\x00\x01";
 
+// On cubes x1 and x0', off cubes x0x1 and x0'. The first on cube shares 3 with the first off cube and 2 with the second; the second
+// on cube shares 0, but it is not the one that is named.
+const TWICE_CLASHING: [u8; 13] = *b"\x46\x4E\x02\x02\x02\x02\x00\x00\x01\x03\x00\x00\x01";
+
 // The summaries marked *.
 fn summaries() {
     kinds::sums(b"Conj", &CONJ);
@@ -80,6 +84,10 @@ fn order() {
     kinds::reads(b"6 in cube 0, 5 in cube 1", &SIX_THEN_FIVE);
     kinds::reads(b"5 before 6 in one cube", b"\x46\x4E\x01\x01\x00\x03\x03");
     kinds::reads(b"7 at the second on cube", &CLASH);
+    kinds::reads(
+        b"7 with the smallest pattern of the first on cube",
+        &TWICE_CLASHING,
+    );
 }
 
 fn lengths() {
@@ -156,6 +164,7 @@ fn main() {
     checks::starred();
     checks::headers();
     checks::matches();
+    checks::disagreements();
     checks::trees();
     functions_first();
     matches::starred();

@@ -20,7 +20,7 @@ fn main() {
         return;
     }
     let got = read.len;
-    let mut text = [0u8; 33];
+    let mut text = [0u8; 37];
     let len = lines::check_lines(&input[..got], &mut text);
     if !io::write_all(1, &text[..len]) {
         os::fail(b"check_claim: standard output");

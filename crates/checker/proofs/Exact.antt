@@ -15,11 +15,12 @@ use lib.Seq.{drop-cons, drop-length}
 use Rattle.bits.proofs.Tests.{both, both-left, both-right}
 use Rattle.answers.specs.declared.Answer.{Answer}
 use Rattle.answers.specs.declared.Fault.{Fault}
-use Rattle.answers.specs.Answers.{accepted, fault, sound, length-fault, _then_}
+use Rattle.bits.specs.Bits.{or-zero}
+use Rattle.answers.specs.Answers.{accepted, fault, fault-at, sound, length-fault, _then_}
 use Rattle.answers.proofs.Faults.{then-both, byte-sound, byte-good, length-sound, length-good, test-sound, by-next, by-both, or-else-both, or-else-next}
 use Rattle.records.specs.Records.{inputs, both-read, Bytes, Accepted}
 use Rattle.records.proofs.Frame.{both-good, both-sound}
-use Rattle.wirings.specs.Wirings.{straight, is-wiring, agreeing}
+use Rattle.wirings.specs.Wirings.{straight, is-wiring, agreeing, disagreement}
 use Rattle.wirings.specs.Pairs.{Pair}
 use Rattle.wirings.proofs.Wirings.{wiring-parts, parts-wiring}
 use Rattle.wirings.proofs.Death.{in-pair, pair-in}
@@ -28,7 +29,7 @@ use Rattle.claims.specs.Claims.{IsMatch, IsRefusal, match-claim, refusal-claim,
 use Rattle.claims.specs.Reading.{read-to, _onward_}
 use Rattle.claims.proofs.Reading.{onward-both, onward-next, StandsAt, stands-join, stands-first, stands-rest, stands-byte, stands-there, Stands, Reads, ReadsClosings, tree-stands, tree-reads}
 use Rattle.claims.proofs.Refusals.{names-in, in-names}
-use Rattle.checker.specs.Checking.{header-fault, match-fault, closing-fault, tree-fault, refusal-fault, claim-fault, kind-of, checking}
+use Rattle.checker.specs.Checking.{header-fault, agreement-fault, match-fault, closing-fault, tree-fault, refusal-fault, claim-fault, kind-of, checking}
 use Rattle.checker.proofs.Making.{choices-sound, choices-good}
 use Rattle.checker.proofs.Closings.{index-sound, index-good}
 
@@ -58,7 +59,7 @@ module _ (q : ℕ) (f g c : List ℕ) where
         let s = byte-sound c at 0 1 14 (first .0) in
         let u = index-sound c (at + 1) _ (first .1) in
         let v = index-sound c (at + 2) _ (second .1) in
-        (v .there, both (in-names q f g (named at) (in-pair q f g _ _ _ (s .most, u .below, v .below))) (test-sound _ 16 at (gone .1)))
+        (v .there, both (in-names q f g (named at) (in-pair q f g _ _ _ (s .most, u .below, v .below))) (test-sound _ 16 at 0 (gone .1)))
 
     closing-good : at + 2 < length c → closes q f g w (named at) ≡ true → (getD c at 0 ≤ 1) × (closing-fault (inputs g) q f g c w at ≡ read-to (at + 3))
     unfolding closing-fault _then_
@@ -111,7 +112,7 @@ module _ (f g : List ℕ) where
   n = inputs g
 
   match-sound : (c : List ℕ) → getD c 0 0 ≡ 0x4D → match-fault f g c .code ≡ 0 → IsMatch f g c
-  unfolding match-fault
+  unfolding match-fault agreement-fault
   match-sound c mark e =
       let agree = then-both _ _ e in
       let choices = then-both _ _ (agree .0) in
@@ -122,12 +123,12 @@ module _ (f g : List ℕ) where
       record {
         wiring = getD c 3 0 ∷ drop 4 c;
         whole = parts-wiring n (getD c 3 0) (drop 4 c) (omega (arith, q .most)) (omega (arith, length-drop 4 c)) (choices-sound n [] (drop 4 c) 4 (choices .1));
-        agrees = test-sound _ 13 0 (agree .1);
+        agrees = test-sound _ 13 0 _ (agree .1);
         bytes = claim-is c 0x4D 0x54 n mark (frame .0) ∙ ap (match-claim n) (drop-cons c 3 0 (q .there));
       }
 
   pub match-good : (c : List ℕ) → IsMatch f g c → claim-fault f g c ≡ sound
-  unfolding claim-fault match-fault is-wiring _then_
+  unfolding claim-fault match-fault agreement-fault is-wiring _then_
   match-good c m = ap (claim-fault f g) (m .bytes) ∙ go (m .wiring) (m .whole) (m .agrees)
     where
       go : (v : List ℕ) → is-wiring n v ≡ true → agreeing f g v ≡ true → claim-fault f g (match-claim n v) ≡ sound
@@ -142,7 +143,7 @@ module _ (f g : List ℕ) where
           then (ap (length-fault (length claim)) long ∙ length-good (length claim)) i
           then byte-good claim 3 0 1 11 (record { there = omega arith; least = omega arith; most = omega (arith, parts .0) }) i
           then choices-good n [] w 4 (parts .2) i
-          then cond (agree i) sound (fault 14 0))
+          then cond (agree i) sound (fault-at 14 0 (or-zero (disagreement q f g w))))
 
   -- ---- a refusal claim
 

@@ -1,4 +1,6 @@
 pub mod Making
+pub mod Disagreeing
+pub mod Named
 pub mod Closings
 pub mod Children
 pub mod Exact

@@ -25,7 +25,7 @@ use Rattle.claims.specs.Reading.{_onward_}
 use Rattle.claims.proofs.Reading.{onward-place, tree-place}
 use Rattle.claims.proofs.Trees.{longest-grows}
 use Rattle.claims.proofs.Refusals.{two-each, match-length, refusal-length, longest-most}
-use Rattle.checker.specs.Checking.{header-fault, choice-code, choices-fault, match-fault, index-fault, closing-fault, tree-fault, refusal-fault, claim-fault, checking}
+use Rattle.checker.specs.Checking.{header-fault, choice-code, choices-fault, agreement-fault, match-fault, index-fault, closing-fault, tree-fault, refusal-fault, claim-fault, checking}
 use Rattle.checker.proofs.Closings.{named-dead}
 use Rattle.checker.proofs.Exact.{claim-sound}
 
@@ -80,7 +80,7 @@ module _ (f g c : List ℕ) (fine : record-fault g .code ≡ 0) where
   Within = By (longest-refusal n)
 
   match-place : Within (match-fault f g c)
-  unfolding match-fault
+  unfolding match-fault agreement-fault
   match-place =
       then-cases Within _ _
       (then-elim Within _ _

@@ -5,12 +5,13 @@ use mathlib.Core.Bool.{cond}
 use mathlib.Core.List.{List, [], _∷_}
 use lib.Dec.{ltb, eqb}
 use lib.ListN.{length, getD, drop}
+use Rattle.bits.specs.Bits.{or-zero}
 use Rattle.rules.specs.Rules.{_adding_}
 use Rattle.answers.specs.declared.Answer.{Answer}
 use Rattle.answers.specs.declared.Fault.{Fault}
-use Rattle.answers.specs.Answers.{accepted, fault, sound, present, byte-fault, length-fault, _then_, by, _or-else_}
+use Rattle.answers.specs.Answers.{accepted, fault, fault-at, sound, present, byte-fault, length-fault, _then_, by, _or-else_}
 use Rattle.records.specs.Records.{inputs, both-read}
-use Rattle.wirings.specs.Wirings.{straight, is-choice, free-choice, agrees}
+use Rattle.wirings.specs.Wirings.{straight, is-choice, free-choice, agrees, disagreement}
 use Rattle.wirings.specs.Pairs.{cubes-in, side, against, of-pair, dead}
 use Rattle.partial.specs.Partial.{StandsFor}
 use Rattle.claims.specs.Reading.{read-to, _onward_, read-tree}
@@ -40,6 +41,10 @@ pub record Wires (n : ℕ) (bytes : List ℕ) (at : ℕ) (r : Wired) : Type 0 wh
   pub fault : r .fault ≡ choices-fault n [] bytes at
   pub wiring : StandsFor (r .wiring) n (choices-made n [] bytes)
 
+-- whether the wiring agrees: if not, 14 names the smallest pattern of g at which f and g disagree
+unfoldable pub agreement-fault : ℕ → List ℕ → List ℕ → List ℕ → Fault
+agreement-fault q f g w = cond (agrees q f g w) sound (fault-at 14 0 (or-zero (disagreement q f g w)))
+
 -- length, q, choices, and last whether the wiring agrees
 unfoldable pub match-fault : List ℕ → List ℕ → List ℕ → Fault
 match-fault f g c =
@@ -47,7 +52,7 @@ match-fault f g c =
     then length-fault (length c) (4 + inputs g)
     then byte-fault c 3 0 1 11
     then choices-fault (inputs g) [] (drop 4 c) 4
-    then cond (agrees (getD c 3 0) f g (drop 4 c)) sound (fault 14 0)
+    then agreement-fault (getD c 3 0) f g (drop 4 c)
 
 -- ---- a refusal claim
 

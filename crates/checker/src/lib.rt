@@ -9,6 +9,7 @@ ghost use Rattle.partial.specs.Partial.{prefix, Formed};
 ghost use Rattle.checker.specs.Checking.{header-fault, choice-code, Wires, match-fault, index-fault, closing-fault, tree-fault, refusal-fault, claim-fault, kind-of, checking};
 use answers::Answer;
 use answers::Fault;
+use cubes::Shared;
 use partial::Wiring;
 
 // A wiring with the choices that were read, up to the first fault.
@@ -58,7 +59,11 @@ pub fn wire(n: u8, bytes: &[u8], from: usize) -> Wired
         let code = choice_code(wiring, choice);
         if code != 0 {
             return Wired {
-                fault: Fault { code, place: at },
+                fault: Fault {
+                    code,
+                    place: at,
+                    pattern: 0,
+                },
                 wiring,
             };
         }
@@ -66,12 +71,16 @@ pub fn wire(n: u8, bytes: &[u8], from: usize) -> Wired
         at += 1;
     }
     Wired {
-        fault: Fault { code: 0, place: 0 },
+        fault: Fault {
+            code: 0,
+            place: 0,
+            pattern: 0,
+        },
         wiring,
     }
 }
 
-// A match claim: its length, q, its choices, and last whether the wiring agrees, which it does if it leaves no dead pair.
+// A match claim: its length, q, its choices, and last whether f and g disagree anywhere.
 fn match_fault(f: &[u8], g: &[u8], claim: &[u8]) -> Fault
     requires { ⌜ Accepted (now f) (now g) ⌝ }
     ensures { λ r. ⌜ r ≡ match-fault (now (f .entry)) (now (g .entry)) (now (claim .entry)) ⌝ }
@@ -91,10 +100,18 @@ fn match_fault(f: &[u8], g: &[u8], claim: &[u8]) -> Fault
     if choices.code != 0 {
         return choices;
     }
-    if read.wiring.first_dead(f, g, claim[3]).found {
-        return Fault { code: 14, place: 0 };
+    match disagree::disagreement(read.wiring, f, g, claim[3]) {
+        Shared::Nowhere => Fault {
+            code: 0,
+            place: 0,
+            pattern: 0,
+        },
+        Shared::At(pattern) => Fault {
+            code: 14,
+            place: 0,
+            pattern,
+        },
     }
-    Fault { code: 0, place: 0 }
 }
 
 // Byte k has to be an index into a list of so many cubes.
@@ -105,12 +122,21 @@ fn index_fault(claim: &[u8], k: usize, number: usize) -> Fault
         return Fault {
             code: 1,
             place: claim.len(),
+            pattern: 0,
         };
     }
     if (claim[k] as usize) < number {
-        return Fault { code: 0, place: 0 };
+        return Fault {
+            code: 0,
+            place: 0,
+            pattern: 0,
+        };
     }
-    Fault { code: 15, place: k }
+    Fault {
+        code: 15,
+        place: k,
+        pattern: 0,
+    }
 }
 
 // Whether cube u of a list of f and cube v of a list of g are a dead pair.
@@ -150,11 +176,13 @@ fn closing(w: Wiring, q: u8, f: &[u8], g: &[u8], claim: &[u8], node: usize) -> F
         return Fault {
             code: 17,
             place: node,
+            pattern: 0,
         };
     }
     Fault {
         code: 0,
         place: node + 3,
+        pattern: 0,
     }
 }
 
@@ -170,6 +198,7 @@ fn tree(w: Wiring, q: u8, f: &[u8], g: &[u8], claim: &[u8], start: usize) -> Fau
         return Fault {
             code: 1,
             place: claim.len(),
+            pattern: 0,
         };
     }
     if claim[start] != 0xFF {
@@ -179,6 +208,7 @@ fn tree(w: Wiring, q: u8, f: &[u8], g: &[u8], claim: &[u8], start: usize) -> Fau
         return Fault {
             code: 16,
             place: start,
+            pattern: 0,
         };
     }
     let mut next = start + 1;
@@ -194,6 +224,7 @@ fn tree(w: Wiring, q: u8, f: &[u8], g: &[u8], claim: &[u8], start: usize) -> Fau
     Fault {
         code: 0,
         place: next,
+        pattern: 0,
     }
 }
 
@@ -224,7 +255,11 @@ fn claim_fault(f: &[u8], g: &[u8], claim: &[u8]) -> Fault
     ensures { λ r. ⌜ r ≡ claim-fault (now (f .entry)) (now (g .entry)) (now (claim .entry)) ⌝ }
 {
     if claim.len() == 0 {
-        return Fault { code: 1, place: 0 };
+        return Fault {
+            code: 1,
+            place: 0,
+            pattern: 0,
+        };
     }
     if claim[0] == 0x4D {
         return match_fault(f, g, claim);
@@ -232,7 +267,11 @@ fn claim_fault(f: &[u8], g: &[u8], claim: &[u8]) -> Fault
     if claim[0] == 0x52 {
         return refusal_fault(f, g, claim);
     }
-    Fault { code: 2, place: 0 }
+    Fault {
+        code: 2,
+        place: 0,
+        pattern: 0,
+    }
 }
 
 // The kind of a claim, by the first byte of its mark: 1 for a match, 2 for a refusal.
@@ -255,7 +294,7 @@ pub fn check(f: &[u8], g: &[u8], claim: &[u8]) -> Answer
     }
     let fault = claim_fault(f, g, claim);
     if fault.code != 0 {
-        return answers::refused(fault.code, 3, fault.place);
+        return answers::refused_by(3, fault);
     }
     answers::accepted(kind(claim[0]), claim.len())
 }

@@ -1,3 +1,4 @@
 pub mod Masks
 pub mod Lists
+pub mod Crossed
 pub mod Settled

@@ -1,18 +1,22 @@
 -- Walks over a list of cubes. The idea: at place `at` of the list, what remains is the cube there and the rest from
 -- `at + 2`; a loop keeps "what remains decides the whole".
-use Prim.Native.Nat.{ℕ, zero, suc, _+_, _*_, _^_, _≤_, _<_}
+use Prim.Native.Nat.{ℕ, zero, suc, _+_, _-_, _*_, _^_, _≤_, _<_}
 use mathlib.Core.Path.{_≡_, refl, sym, ap, ap₂, _∙_, subst}
-use mathlib.Core.Bool.{Bool, true, false, _&&_, _||_, false≢true, and-false, and-comm, and-or-distrib-left}
+use mathlib.Core.Bool.{Bool, true, false, _&&_, _||_, false≢true, and-false, or-assoc, and-comm, and-or-distrib-left}
 use mathlib.Core.List.{List, [], _∷_}
+use mathlib.Core.Option.{Option, none, Option·some-injective, Option·some-ne-none}
 use mathlib.Core.Logic.{⊎-elim}
 use native.Mathlib.Numerals.{add-one, add-two}
 use native.Mathlib.Omega.{arith}
 use lib.ListN.{length, getD, take, drop, length-drop}
-use lib.Seq.{drop-cons}
+use lib.Seq.{drop-cons, drop-drop}
 use Rattle.bits.proofs.Tests.{or-left, either}
-use Rattle.bits.proofs.Below.{any-or, any-never, any-same}
-use Rattle.bits.specs.Bits.{any}
-use Rattle.cubes.specs.Cubes.{cube-holds, some-cube, some-holds}
+use Rattle.bits.proofs.Below.{not-at, any-or, any-never, any-same}
+use Rattle.bits.proofs.Smallest.{found-any, none-any, smallest-none, smallest-same, smallest-or, lesser-none, lesser-assoc}
+use Rattle.bits.specs.Bits.{any, lesser}
+use Rattle.cubes.specs.declared.Shared.{Shared}
+use Rattle.cubes.specs.declared.Shared.the-variants.{Nowhere, At}
+use Rattle.cubes.specs.Cubes.{cube-holds, cubes-share, least-shared, some-cube, some-holds, least-with, pattern-of}
 
 -- what remains at a place with a whole cube: the cube, and what comes after it
 pub cube-there : (l : List ℕ) (at : ℕ) → at + 1 < length l → drop at l ≡ getD l at 0 ∷ getD l (at + 1) 0 ∷ drop (at + 2) l
@@ -60,7 +64,7 @@ Each Q (P ∷ []) = Unit {0}
 Each Q (P ∷ N ∷ rest) = Q P N × Each Q rest
 
 -- 2 * k, two at a time
-twice : ℕ → ℕ
+unfoldable pub twice : ℕ → ℕ
 twice zero = zero
 twice (suc k) = suc (suc (twice k))
 
@@ -118,6 +122,14 @@ module _ (Q : ℕ → ℕ → Type 0) where
   pub each-drop : (k : ℕ) (l : List ℕ) → Each Q l → Each Q (drop (2 * k) l)
   each-drop k l e = subst (λ (m : ℕ). Each Q (drop m l)) (twice-is k) (drop-twice k l e)
 
+-- some cube of a list passes: of its first k cubes, or of the others
+some-front : (t : ℕ → ℕ → Bool) (k : ℕ) (l : List ℕ) → some-cube t l ≡ some-cube t (take (twice k) l) || some-cube t (drop (twice k) l)
+unfolding some-cube twice
+some-front t zero l = refl
+some-front t (suc k) [] = refl
+some-front t (suc k) (P ∷ []) = refl
+some-front t (suc k) (P ∷ N ∷ l) = ap (λ (b : Bool). t P N || b) (some-front t k l) ∙ sym (or-assoc (t P N) (some-cube t (take (twice k) l)) (some-cube t (drop (twice k) l)))
+
 -- two tests that agree at each cube are passed alike
 pub some-same : (t u : ℕ → ℕ → Bool) (l : List ℕ) → Each (λ P N. t P N ≡ u P N) l → some-cube t l ≡ some-cube u l
 unfolding some-cube Each
@@ -139,15 +151,114 @@ some-and a t [] = sym (and-false a)
 some-and a t (P ∷ []) = sym (and-false a)
 some-and a t (P ∷ N ∷ l) = ap (λ (b : Bool). a && t P N || b) (some-and a t l) ∙ sym (and-or-distrib-left a (t P N) (some-cube t l))
 
+-- a cube, read at h y, meets some cube of a list at some y exactly when it meets the list
+pub cube-meets : (m : ℕ) (h : ℕ → ℕ) (P N : ℕ) (l : List ℕ)
+    → some-cube (λ P′ N′. any m (λ y. cube-holds P N (h y) && cube-holds P′ N′ y)) l ≡ any m (λ y. cube-holds P N (h y) && some-holds l y)
+cube-meets m h P N l = some-any m (λ P′ N′ y. cube-holds P N (h y) && cube-holds P′ N′ y) l ∙ any-same _ _ m (λ y _. some-and (cube-holds P N (h y)) (λ P′ N′. cube-holds P′ N′ y) l)
+
 -- two lists of cubes meet at some y, the one read at h y: two of their cubes do exactly when the lists do
 pub lists-meet : (m : ℕ) (h : ℕ → ℕ) (l l′ : List ℕ)
     → some-cube (λ P N. some-cube (λ P′ N′. any m (λ y. cube-holds P N (h y) && cube-holds P′ N′ y)) l′) l ≡ any m (λ y. some-holds l (h y) && some-holds l′ y)
-lists-meet m h l l′ = some-same _ _ l (each-all _ inner l) ∙ some-any m (λ P N y. cube-holds P N (h y) && some-holds l′ y) l ∙ any-same _ _ m outer
+lists-meet m h l l′ = some-same _ _ l (each-all _ (λ P N. cube-meets m h P N l′) l) ∙ some-any m (λ P N y. cube-holds P N (h y) && some-holds l′ y) l ∙ any-same _ _ m outer
   where
-    inner : (P N : ℕ) → some-cube (λ P′ N′. any m (λ y. cube-holds P N (h y) && cube-holds P′ N′ y)) l′ ≡ any m (λ y. cube-holds P N (h y) && some-holds l′ y)
-    inner P N = some-any m (λ P′ N′ y. cube-holds P N (h y) && cube-holds P′ N′ y) l′ ∙ any-same _ _ m (λ y _. some-and (cube-holds P N (h y)) (λ P′ N′. cube-holds P′ N′ y) l′)
-
     outer : (y : ℕ) → y < m → some-cube (λ P N. cube-holds P N (h y) && some-holds l′ y) l ≡ some-holds l (h y) && some-holds l′ y
     outer y _ =
         let there = some-holds l′ y in
         some-same _ _ l (each-all _ (λ P N. and-comm (cube-holds P N (h y)) there) l) ∙ some-and there _ l ∙ and-comm there (some-holds l (h y))
+
+-- ---- the smallest pattern shared with a list
+
+-- an answer is known by what it says
+pub pattern-one : (a b : Shared) → pattern-of a ≡ pattern-of b → a ≡ b
+unfolding pattern-of
+pattern-one Nowhere Nowhere e = refl
+pattern-one Nowhere (At y) e = absurd (Option·some-ne-none y (sym e))
+pattern-one (At x) Nowhere e = absurd (Option·some-ne-none x e)
+pattern-one (At x) (At y) e = ap At (Option·some-injective x y e)
+
+-- what was found says whether two cubes share a pattern
+module _ (n P N P′ N′ : ℕ) (r : Shared) (e : pattern-of r ≡ least-shared n P N P′ N′) where
+  pub shared-at : (x : ℕ) → r ≡ At x → cubes-share n P N P′ N′ ≡ true
+  unfolding pattern-of least-shared cubes-share
+  shared-at x h = found-any (λ x. cube-holds P N x && cube-holds P′ N′ x) (2 ^ n) x (sym e ∙ ap pattern-of h)
+
+  pub shared-nowhere : r ≡ Nowhere → cubes-share n P N P′ N′ ≡ false
+  unfolding pattern-of least-shared cubes-share
+  shared-nowhere h = none-any (λ x. cube-holds P N x && cube-holds P′ N′ x) (2 ^ n) (sym e ∙ ap pattern-of h)
+
+-- where the first four cubes share no pattern, the others decide
+none-in-front : (P N : ℕ) (l : List ℕ) → some-cube (cubes-share 8 P N) (take 8 l) ≡ false → least-with 8 P N l ≡ least-with 8 P N (drop 8 l)
+unfolding least-with cubes-share twice
+none-in-front P N l e =
+    smallest-same _ _ (2 ^ 8) (λ x h.
+    ap (λ (t : Bool). cube-holds P N x && t) (some-front (λ P N. cube-holds P N x) 4 l)
+    ∙ and-or-distrib-left (cube-holds P N x) (some-holds (take 8 l) x) (some-holds (drop 8 l) x)
+    ∙ ap (λ (t : Bool). t || cube-holds P N x && some-holds (drop 8 l) x) (not-at (λ x. cube-holds P N x && some-holds (take 8 l) x) (2 ^ 8) none-shared x h))
+  where
+    none-shared : any (2 ^ 8) (λ x. cube-holds P N x && some-holds (take 8 l) x) ≡ false
+    none-shared = sym (cube-meets (2 ^ 8) (λ x. x) P N (take 8 l)) ∙ e
+
+-- a walk has come to `at` and has the least of the cubes before it: with what remains, it is the least of all
+module _ (P N : ℕ) (l : List ℕ) where
+  pub record LeastWalk (least : Shared) (at : ℕ) : Type 0 where
+    pub within : at ≤ length l
+    pub rest : lesser (pattern-of least) (least-with 8 P N (drop at l)) ≡ least-with 8 P N l
+
+  pub least-starts : LeastWalk Nowhere 0
+  unfolding lesser pattern-of
+  least-starts = record { within = omega arith; rest = refl }
+
+  -- the least of what remains is that of its first cube, or of the others
+  pub least-step : (at : ℕ) → at + 1 < length l
+      → least-with 8 P N (drop at l) ≡ lesser (least-shared 8 P N (getD l at 0) (getD l (at + 1) 0)) (least-with 8 P N (drop (at + 2) l))
+  unfolding least-with least-shared
+  least-step at h =
+      smallest-same _ _ (2 ^ 8) (λ x _.
+      ap (λ (t : Bool). cube-holds P N x && t) (some-step (λ P N. cube-holds P N x) l at h)
+      ∙ and-or-distrib-left (cube-holds P N x) (cube-holds (getD l at 0) (getD l (at + 1) 0) x) (some-holds (drop (at + 2) l) x))
+      ∙ smallest-or (λ x. cube-holds P N x && cube-holds (getD l at 0) (getD l (at + 1) 0) x) (λ x. cube-holds P N x && some-holds (drop (at + 2) l) x) (2 ^ 8)
+
+  -- a walk from `at` has come to `i`, and the cubes that it has passed share no pattern
+  pub record Passed (at i : ℕ) : Type 0 where
+    pub onward : at ≤ i
+    pub within : i ≤ length l
+    pub rest : least-with 8 P N (drop i l) ≡ least-with 8 P N (drop at l)
+
+  pub passed-starts : (at : ℕ) → at ≤ length l → Passed at at
+  passed-starts at h = record { onward = omega arith; within = h; rest = refl }
+
+  -- four cubes more share none
+  pub passed-goes : (at i : ℕ) → Passed at i → 8 ≤ length l - i → some-cube (cubes-share 8 P N) (take 8 (drop i l)) ≡ false → Passed at (i + 8)
+  passed-goes at i w h e = record {
+    onward = omega arith;
+    within = omega arith;
+    rest = ap (least-with 8 P N) (sym (drop-drop 8 i l)) ∙ sym (none-in-front P N (drop i l) e) ∙ w .rest;
+  }
+
+  pub least-end : (at : ℕ) → length l ≤ at + 1 → least-with 8 P N (drop at l) ≡ none
+  unfolding least-with
+  least-end at h =
+      smallest-none _ (2 ^ 8)
+      (any-same _ _ (2 ^ 8) (λ x _. ap (λ (t : Bool). cube-holds P N x && t) (some-end (λ P N. cube-holds P N x) l at h) ∙ and-false (cube-holds P N x)) ∙ any-never (2 ^ 8))
+
+  module _ (least : Shared) (at : ℕ) (w : LeastWalk least at) where
+    pub least-goes : at + 1 < length l → (here next : Shared) → pattern-of here ≡ least-shared 8 P N (getD l at 0) (getD l (at + 1) 0)
+        → pattern-of next ≡ lesser (pattern-of least) (pattern-of here) → LeastWalk next (at + 2)
+    least-goes h here next e f = record {
+      within = omega arith;
+      rest = ap (λ (o : Option ℕ). lesser o (least-with 8 P N (drop (at + 2) l))) (f ∙ ap (lesser (pattern-of least)) e)
+          ∙ lesser-assoc (pattern-of least) _ _ ∙ ap (lesser (pattern-of least)) (sym (least-step at h)) ∙ w .rest;
+    }
+
+    -- past a cube that shares none
+    pub least-passes : at + 1 < length l → (here : Shared) → here ≡ Nowhere → pattern-of here ≡ least-shared 8 P N (getD l at 0) (getD l (at + 1) 0)
+        → LeastWalk least (at + 2)
+    unfolding pattern-of
+    least-passes h here nothing e = least-goes h here least e (sym (ap (λ (r : Shared). lesser (pattern-of least) (pattern-of r)) nothing ∙ lesser-none (pattern-of least)))
+
+    -- and on to a place before which none is shared
+    pub least-moves : (i : ℕ) → i ≤ length l → least-with 8 P N (drop i l) ≡ least-with 8 P N (drop at l) → LeastWalk least i
+    least-moves i h e = record { within = h; rest = ap (lesser (pattern-of least)) e ∙ w .rest }
+
+    pub least-ends : length l ≤ at + 1 → pattern-of least ≡ least-with 8 P N l
+    least-ends h = sym (lesser-none (pattern-of least)) ∙ ap (lesser (pattern-of least)) (sym (least-end at h)) ∙ w .rest

@@ -1,18 +1,21 @@
 -- What the mask tests say of patterns. The idea: a cube holds x where, at each input, P ≤ x and N + x ≤ 1 as bits; the
 -- operators of the code act bit by bit, so each law is one question of arithmetic on single bits.
-use Prim.Native.Nat.{ℕ, _+_, _-_, _^_, _≤_, _<_, min, max}
-use mathlib.Core.Path.{_≡_, sym, ap, ap₂, _∙_}
-use mathlib.Core.Bool.{Bool, true, _&&_}
+use Prim.Native.Nat.{ℕ, _+_, _-_, _%_, _^_, _≤_, _<_, min, max}
+use mathlib.Core.Path.{_≡_, refl, sym, ap, ap₂, _∙_}
+use mathlib.Core.Bool.{Bool, true, false, cond, _&&_}
+use mathlib.Core.Option.{some, none}
+use mathlib.Core.Logic.{⊎-elim}
 use native.Mathlib.Nat.{lt-of-le-of-lt}
 use native.Mathlib.Omega.{arith}
-use borrow.Author.Tests.{leb-true, le-leb, eqb-true, eq-eqb}
+use borrow.Author.Tests.{leb-true, le-leb, eqb-true, eqb-false, eq-eqb}
 use lib.Bits.{bitAnd, bitOr, and-le-r, or-lt}
 use lib.Dec.{leb, eqb}
 use Rattle.bits.specs.Bits.{bit}
-use Rattle.bits.proofs.Tests.{both, both-left, both-right, same-test}
+use Rattle.bits.proofs.Tests.{both, both-left, both-right, same-test, not-passed, below-or-not}
 use Rattle.bits.proofs.Below.{every-at, every-if, any-at, any-if}
-use Rattle.bits.proofs.Bit.{bit-le, bit-and, bit-or, bit-not, bit-zero, bits-eq, bits-zero}
-use Rattle.cubes.specs.Cubes.{meets, cube-holds, cubes-share}
+use Rattle.bits.proofs.Bit.{bit-le, bit-and, bit-or, bit-not, bit-zero, bit-mod, bit-above, bits-le, bits-eq, bits-zero}
+use Rattle.bits.proofs.Smallest.{Means, smallest-by}
+use Rattle.cubes.specs.Cubes.{meets, cube-holds, cubes-share, least-shared}
 
 -- ---- a cube holds a pattern exactly when each input is as it asks
 
@@ -81,6 +84,11 @@ module _ (P N P′ N′ : ℕ) where
       bit-and i (bitOr P P′) (bitOr N N′) ∙ ap₂ min (bit-or i P P′) (bit-or i N N′)
       ∙ omega (arith, holds-at P N x e i h .ones, holds-at P N x e i h .zeros, holds-at P′ N′ x e′ i h .ones, holds-at P′ N′ x e′ i h .zeros))
 
+  -- and no input is asked to be 1 by the one and 0 by the other
+  pub not-crossed : N′ < 2 ^ 8 → (x : ℕ) → cube-holds P N x ≡ true → cube-holds P′ N′ x ≡ true → bitAnd P N′ ≡ 0
+  not-crossed n′ x e e′ =
+      bits-zero 8 (bitAnd P N′) (lt-of-le-of-lt (and-le-r P N′) n′) (λ i h. bit-and i P N′ ∙ omega (arith, holds-at P N x e i h .ones, holds-at P′ N′ x e′ i h .zeros))
+
   -- the test by masks, for cubes of any number of inputs
   pub share-masks : (n : ℕ) → P < 2 ^ n → P′ < 2 ^ n → N < 2 ^ 8 → N′ < 2 ^ 8 → cubes-share n P N P′ N′ ≡ eqb (bitAnd (bitOr P P′) (bitOr N N′)) 0
   unfolding cubes-share
@@ -95,3 +103,58 @@ module _ (P N P′ N′ : ℕ) where
       (λ e.
       let w = witness (eqb-true _ _ e) in
       any-if (λ x. cube-holds P N x && cube-holds P′ N′ x) (2 ^ n) (bitOr P P′) (or-lt n P P′ p p′) (both (w .0) (w .1)))
+
+  -- the smallest pattern that they share: each input that is asked to be 1 is 1 in every shared pattern
+  pub least-masks : P < 2 ^ 8 → N < 2 ^ 8 → P′ < 2 ^ 8 → N′ < 2 ^ 8
+      → least-shared 8 P N P′ N′ ≡ cond (eqb (bitAnd (bitOr P P′) (bitOr N N′)) 0) (some (bitOr P P′)) none
+  unfolding least-shared
+  least-masks p n p′ n′ = smallest-by shared (2 ^ 8) _ (go (eqb (bitAnd (bitOr P P′) (bitOr N N′)) 0) refl)
+    where
+      shared : ℕ → Bool
+      shared x = cube-holds P N x && cube-holds P′ N′ x
+
+      clear : (x : ℕ) → shared x ≡ true → Clear
+      clear x e = shared-clear n n′ x (both-left (cube-holds P N x) (cube-holds P′ N′ x) e) (both-right (cube-holds P N x) (cube-holds P′ N′ x) e)
+
+      not-below : (x : ℕ) → shared x ≡ true → bitOr P P′ ≤ x
+      not-below x e =
+          bits-le 8 (bitOr P P′) x (or-lt 8 P P′ p p′)
+          (λ i h.
+          omega (
+            arith,
+            bit-or i P P′,
+            holds-at P N x (both-left (cube-holds P N x) (cube-holds P′ N′ x) e) i h .ones,
+            holds-at P′ N′ x (both-right (cube-holds P N x) (cube-holds P′ N′ x) e) i h .ones,
+          ))
+
+      go : (t : Bool) → eqb (bitAnd (bitOr P P′) (bitOr N N′)) 0 ≡ t → Means (2 ^ 8) shared (cond t (some (bitOr P P′)) none)
+      go true e =
+          let w = witness (eqb-true _ _ e) in
+          record {
+            within = or-lt 8 P P′ p p′;
+            passes = both (w .0) (w .1);
+            none-below = λ y l. not-passed (shared y) (λ q. omega (arith, l, not-below y q));
+          }
+      go false e = λ y _. not-passed (shared y) (λ q. eqb-false _ _ e (clear y q))
+
+-- ---- a cube of n inputs looks at no others
+
+pub holds-low : (n P N : ℕ) → P < 2 ^ n → N < 2 ^ n → (x : ℕ) → cube-holds P N x ≡ cube-holds P N (x % 2 ^ n)
+holds-low n P N p m x =
+    same-test (cube-holds P N x) (cube-holds P N (x % 2 ^ n))
+    (λ e. holds-if P N (x % 2 ^ n) (λ i h. let o = holds-at P N x e i h in at-input i (o .ones) (o .zeros)))
+    (λ e. holds-if P N x (λ i h. let o = holds-at P N (x % 2 ^ n) e i h in back i (o .ones) (o .zeros)))
+  where
+    at-input : (i : ℕ) → bit i P ≤ bit i x → bit i N + bit i x ≤ 1 → Meets P N (x % 2 ^ n) i
+    at-input i a b =
+        ⊎-elim
+        (λ (l : i < n). record { ones = omega (arith, a, bit-mod i n x l); zeros = omega (arith, b, bit-mod i n x l) })
+        (λ (l : n ≤ i). record { ones = omega (arith, bit-above i n p l); zeros = omega (arith, bit-above i n m l, bit-le i (x % 2 ^ n)) })
+        (below-or-not i n)
+
+    back : (i : ℕ) → bit i P ≤ bit i (x % 2 ^ n) → bit i N + bit i (x % 2 ^ n) ≤ 1 → Meets P N x i
+    back i a b =
+        ⊎-elim
+        (λ (l : i < n). record { ones = omega (arith, a, bit-mod i n x l); zeros = omega (arith, b, bit-mod i n x l) })
+        (λ (l : n ≤ i). record { ones = omega (arith, bit-above i n p l); zeros = omega (arith, bit-above i n m l, bit-le i x) })
+        (below-or-not i n)

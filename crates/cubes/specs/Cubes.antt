@@ -4,8 +4,11 @@
 use Prim.Native.Nat.{ℕ, _+_, _^_}
 use mathlib.Core.Bool.{Bool, false, not, _&&_, _||_}
 use mathlib.Core.List.{List, [], _∷_}
+use mathlib.Core.Option.{Option, none, some}
 use lib.Dec.{leb}
-use Rattle.bits.specs.Bits.{bit, has, every, any, count}
+use Rattle.bits.specs.Bits.{bit, has, every, any, count, smallest}
+use Rattle.cubes.specs.declared.Shared.{Shared}
+use Rattle.cubes.specs.declared.Shared.the-variants.{Nowhere, At}
 
 -- input i of pattern x is as the cube P, N asks: 1 if it is in P, 0 if it is in N
 abbrev pub meets : ℕ → ℕ → ℕ → ℕ → Bool
@@ -23,6 +26,10 @@ cube-names P N i = has P i || has N i
 unfoldable pub cubes-share : ℕ → ℕ → ℕ → ℕ → ℕ → Bool
 cubes-share n P N P′ N′ = any (2 ^ n) (λ x. cube-holds P N x && cube-holds P′ N′ x)
 
+-- and the smallest one that they share
+unfoldable pub least-shared : ℕ → ℕ → ℕ → ℕ → ℕ → Option ℕ
+least-shared n P N P′ N′ = smallest (2 ^ n) (λ x. cube-holds P N x && cube-holds P′ N′ x)
+
 -- some cube of the list passes the test
 unfoldable pub some-cube : (ℕ → ℕ → Bool) → List ℕ → Bool
 some-cube t [] = false
@@ -32,6 +39,15 @@ some-cube t (P ∷ N ∷ rest) = t P N || some-cube t rest
 -- some cube of the list holds pattern x: of a function's on list, it is on at x; of its off list, off
 abbrev pub some-holds : List ℕ → ℕ → Bool
 some-holds cubes x = some-cube (λ P N. cube-holds P N x) cubes
+
+-- the smallest pattern of n inputs that the cube shares with any cube of the list
+unfoldable pub least-with : ℕ → ℕ → ℕ → List ℕ → Option ℕ
+least-with n P N cubes = smallest (2 ^ n) (λ x. cube-holds P N x && some-holds cubes x)
+
+-- what the code's answer says: no pattern, or this one
+unfoldable pub pattern-of : Shared → Option ℕ
+pattern-of Nowhere = none
+pattern-of (At x) = some x
 
 -- a function with these two lists is open at x: neither on nor off
 abbrev pub open-at : List ℕ → List ℕ → ℕ → Bool

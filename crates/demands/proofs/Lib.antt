@@ -8,3 +8,5 @@ pub mod Rejected
 pub mod Programs
 pub mod Tables
 pub mod TableRows
+pub mod Patterns
+pub mod PatternRows

@@ -7,20 +7,20 @@ use borrow.Fn.Kinds.{Dens, resT, endedOf}
 use denote.Ref.{at-last}
 use denote.Triple.Clauses.{AtExit}
 use lib.ListN.{length, replicate}
-use Rattle.bits.specs.Bits.{bit, number, every, any, count}
-use Rattle.cubes.specs.Cubes.{cube-holds, cubes-share, some-cube}
+use Rattle.bits.specs.Bits.{bit, number, every, any, count, smallest, or-next, or-zero}
+use Rattle.cubes.specs.Cubes.{cube-holds, cubes-share, some-cube, least-with}
 use Rattle.answers.specs.declared.Answer.{Answer}
-use Rattle.answers.specs.Answers.{accepted, refused, _then_, _or-else_, by, byte-fault, length-fault, fits, buffer-after, Delivered}
+use Rattle.answers.specs.Answers.{accepted, refused, refused-at, _then_, _or-else_, by, byte-fault, length-fault, fits, buffer-after, Delivered}
 use Rattle.rules.specs.Lists.{run, filter, first, some-in}
 use Rattle.rules.specs.Rules.{completions}
-use Rattle.records.specs.Records.{on-list, off-list, cube-code, clash-code, first-fault, header-bytes, header-fault, record-fault, both-read, reading, bytes-at-fault, memory-at-fault}
+use Rattle.records.specs.Records.{on-list, off-list, cube-code, clash-code, clash-pattern, first-fault, header-bytes, header-fault, record-fault, both-read, reading, bytes-at-fault, memory-at-fault}
 use Rattle.writer.specs.Writing.{record-bytes, few, sizes, cubes, writing}
-use Rattle.wirings.specs.Wirings.{choices-from, served, read-at, disagree-at, agrees, wirings}
+use Rattle.wirings.specs.Wirings.{choices-from, served, read-at, disagree-at, agrees, disagreement, wirings}
 use Rattle.wirings.specs.Pairs.{separates, dead, side, against, pairs, first-dead}
 use Rattle.claims.specs.Trees.{tree-bytes, trees-bytes, closed-by, tree-each, own}
 use Rattle.claims.specs.Claims.{own-tree}
 use Rattle.claims.specs.Reading.{_onward_, in-turn, read-tree}
-use Rattle.checker.specs.Checking.{header-fault as claim-header, choice-code, choices-fault, match-fault, index-fault, closing-fault, tree-fault, refusal-fault, claim-fault, kind-of, checking}
+use Rattle.checker.specs.Checking.{header-fault as claim-header, choice-code, choices-fault, agreement-fault, match-fault, index-fault, closing-fault, tree-fault, refusal-fault, claim-fault, kind-of, checking}
 use Rattle.matcher.specs.Matching.{first-agreeing, claim-of, kind-found, claim-for, matching}
 use Rattle.demands.proofs.Table.{Conj, Disj, Odd, Const, Wire, Conj-Disj, Const-Wire, one-input, Row, check-of, match-of, AllRight}
 use Rattle.checker.proofs.check.Kinds as check-kinds
@@ -44,7 +44,7 @@ five-before-six κs a r s p = ap (λ x. x .answer) p
 pub buffer-written : (κs : Lfts 3) (a : Dens κs write-kinds.ps) (r : resT write-kinds.r κs .Denot) (s : AtExit (endedOf 3 write-kinds.ps write-kinds.r) κs)
     → write.Post κs (2, (at-last (a .1 .0) (3 ∷ 0 ∷ []), (at-last (a .1 .1 .0) (0 ∷ 1 ∷ 0 ∷ 2 ∷ []), (at-last (a .1 .1 .1 .0) (replicate 11 0), tt)))) r s
     → s .1 .1 .1 .0 .now ≡ Conj
-unfolding bit every any count cube-holds cubes-share some-cube by _or-else_ buffer-after cube-code clash-code first-fault record-bytes few sizes cubes fits writing
+unfolding bit every any count cube-holds cubes-share some-cube by _or-else_ buffer-after cube-code clash-code first-fault record-bytes few sizes cubes fits writing smallest or-next or-zero clash-pattern least-with
 buffer-written κs a r s p = p .buffer
 
 -- ---- the checker: the answer at each of these cases is settled
@@ -78,11 +78,11 @@ wrong-checkers =
     ∷ check-of Const Wire (0x52 ∷ 0x46 ∷ 0x01 ∷ 0xFF ∷ 0xFF ∷ []) (refused 16 3 4)
     ∷ check-of Const Wire (Const-Wire ++ (0x00 ∷ [])) (refused 8 3 9)
     ∷ check-of F-2-1 G-2-1 (0x4D ∷ 0x54 ∷ 0x03 ∷ 0x00 ∷ 0x01 ∷ 0x02 ∷ 0x10 ∷ []) (accepted 1 7)
-    ∷ check-of F-2-1 G-2-1 (0x4D ∷ 0x54 ∷ 0x03 ∷ 0x00 ∷ 0x12 ∷ 0x00 ∷ 0x01 ∷ []) (refused 14 3 0)
+    ∷ check-of F-2-1 G-2-1 (0x4D ∷ 0x54 ∷ 0x03 ∷ 0x00 ∷ 0x12 ∷ 0x00 ∷ 0x01 ∷ []) (refused-at 14 3 0 3)
     ∷ []
 
 pub wrong-checkers-ruled-out : AllRight wrong-checkers
-unfolding bit number every any count cube-holds cubes-share some-cube _then_ by _or-else_ byte-fault length-fault filter some-in on-list off-list cube-code clash-code first-fault header-bytes header-fault record-fault both-read choices-from served read-at disagree-at agrees separates dead side against _onward_ in-turn read-tree claim-header choice-code choices-fault match-fault index-fault closing-fault tree-fault refusal-fault claim-fault kind-of checking
+unfolding bit number every any count cube-holds cubes-share some-cube _then_ by _or-else_ byte-fault length-fault filter some-in on-list off-list cube-code clash-code first-fault header-bytes header-fault record-fault both-read choices-from served read-at disagree-at agrees separates dead side against _onward_ in-turn read-tree claim-header choice-code choices-fault match-fault index-fault closing-fault tree-fault refusal-fault claim-fault kind-of checking smallest or-next or-zero clash-pattern least-with disagreement agreement-fault
 wrong-checkers-ruled-out = (refl, (refl, (refl, (refl, (refl, (refl, (refl, (refl, tt))))))))
 
 -- ---- the matcher: the answer at each of these cases is settled, and so is the buffer afterwards
@@ -121,7 +121,7 @@ wrong-matchers =
     ∷ []
 
 pub wrong-matchers-ruled-out : AllRight wrong-matchers
-unfolding flatMap bit number every any count cube-holds cubes-share some-cube _then_ by _or-else_ byte-fault length-fault fits buffer-after run filter first some-in completions on-list off-list cube-code clash-code first-fault header-bytes header-fault record-fault both-read choices-from served read-at disagree-at agrees wirings separates dead side against pairs first-dead tree-bytes trees-bytes closed-by tree-each own own-tree first-agreeing claim-of kind-found matching
+unfolding flatMap bit number every any count cube-holds cubes-share some-cube _then_ by _or-else_ byte-fault length-fault fits buffer-after run filter first some-in completions on-list off-list cube-code clash-code first-fault header-bytes header-fault record-fault both-read choices-from served read-at disagree-at agrees wirings separates dead side against pairs first-dead tree-bytes trees-bytes closed-by tree-each own own-tree first-agreeing claim-of kind-found matching smallest or-next or-zero clash-pattern least-with
 wrong-matchers-ruled-out = ((refl, refl), ((refl, refl), ((refl, refl), ((refl, refl), ((refl, refl), tt)))))
 
 -- ---- the bytes at fault
@@ -130,5 +130,5 @@ wrong-matchers-ruled-out = ((refl, refl), ((refl, refl), ((refl, refl), ((refl, 
 pub fault-of-g : (κs : Lfts 1) (a : Dens κs at-fault-kinds.ps) (r : resT at-fault-kinds.r κs .Denot) (s : AtExit (endedOf 1 at-fault-kinds.ps at-fault-kinds.r) κs)
     → at-fault.Post κs (at-last (a .0) Conj, (at-last (a .1 .0) (0x46 ∷ 0x4E ∷ 1 ∷ 1 ∷ 0 ∷ 2 ∷ 2 ∷ []), tt)) r s
     → (r .ptr ≡ (a .1 .0 .ptr .0, 5 + a .1 .0 .ptr .1)) × (r .now ≡ 2 ∷ 2 ∷ [])
-unfolding bit every any count cube-holds cubes-share some-cube _then_ byte-fault length-fault on-list off-list cube-code clash-code first-fault header-bytes header-fault record-fault bytes-at-fault memory-at-fault
+unfolding bit every any count cube-holds cubes-share some-cube _then_ byte-fault length-fault on-list off-list cube-code clash-code first-fault header-bytes header-fault record-fault bytes-at-fault memory-at-fault smallest or-next or-zero clash-pattern least-with
 fault-of-g κs a r s p = (p .memory, p .bytes)

@@ -3,19 +3,19 @@ use Prim.Native.Nat.{ℕ}
 use mathlib.Core.Path.{_≡_, refl}
 use mathlib.Core.List.{List, [], _∷_, _++_, flatMap}
 use lib.ListN.{length, replicate}
-use Rattle.bits.specs.Bits.{bit, number, every, any, count}
-use Rattle.cubes.specs.Cubes.{cube-holds, cubes-share, some-cube, patterns-held, inputs-used}
+use Rattle.bits.specs.Bits.{bit, number, every, any, count, smallest, or-next, or-zero}
+use Rattle.cubes.specs.Cubes.{cube-holds, cubes-share, some-cube, least-with, patterns-held, inputs-used}
 use Rattle.answers.specs.declared.Answer.{Answer}
 use Rattle.answers.specs.Answers.{accepted, refused, _then_, by, _or-else_, byte-fault, length-fault, fits, buffer-after}
 use Rattle.rules.specs.Lists.{run, filter, first, some-in}
 use Rattle.rules.specs.Rules.{completions}
-use Rattle.records.specs.Records.{on-list, off-list, cube-code, clash-code, first-fault, header-bytes, header-fault, record-fault, both-read, with-figures, summing}
-use Rattle.wirings.specs.Wirings.{choices-from, served, read-at, disagree-at, agrees, wirings}
+use Rattle.records.specs.Records.{on-list, off-list, cube-code, clash-code, clash-pattern, first-fault, header-bytes, header-fault, record-fault, both-read, with-figures, summing}
+use Rattle.wirings.specs.Wirings.{choices-from, served, read-at, disagree-at, agrees, disagreement, wirings}
 use Rattle.wirings.specs.Pairs.{separates, dead, side, against, pairs, first-dead}
 use Rattle.claims.specs.Trees.{tree-bytes, trees-bytes, closed-by, tree-each, own}
 use Rattle.claims.specs.Claims.{own-tree}
 use Rattle.claims.specs.Reading.{_onward_, in-turn, read-tree}
-use Rattle.checker.specs.Checking.{header-fault as claim-header, choice-code, choices-fault, match-fault, index-fault, closing-fault, tree-fault, refusal-fault, claim-fault, kind-of, checking}
+use Rattle.checker.specs.Checking.{header-fault as claim-header, choice-code, choices-fault, agreement-fault, match-fault, index-fault, closing-fault, tree-fault, refusal-fault, claim-fault, kind-of, checking}
 use Rattle.matcher.specs.Matching.{first-agreeing, claim-of, kind-found, claim-for, matching}
 use Rattle.tables.specs.Tables.{record-of, table-reading, table-of, table-writing}
 
@@ -101,6 +101,6 @@ starred =
     ∷ []
 
 pub starred-right : AllRight starred
-unfolding flatMap bit number every any count cube-holds cubes-share some-cube patterns-held inputs-used _then_ by _or-else_ byte-fault length-fault fits buffer-after run filter first some-in completions on-list off-list cube-code clash-code first-fault header-bytes header-fault record-fault both-read summing choices-from served read-at disagree-at agrees wirings separates dead side against pairs first-dead tree-bytes trees-bytes closed-by tree-each own own-tree _onward_ in-turn read-tree claim-header choice-code choices-fault match-fault index-fault closing-fault tree-fault refusal-fault claim-fault kind-of checking first-agreeing claim-of kind-found matching
+unfolding flatMap bit number every any count cube-holds cubes-share some-cube patterns-held inputs-used _then_ by _or-else_ byte-fault length-fault fits buffer-after run filter first some-in completions on-list off-list cube-code clash-code first-fault header-bytes header-fault record-fault both-read summing choices-from served read-at disagree-at agrees wirings separates dead side against pairs first-dead tree-bytes trees-bytes closed-by tree-each own own-tree _onward_ in-turn read-tree claim-header choice-code choices-fault match-fault index-fault closing-fault tree-fault refusal-fault claim-fault kind-of checking first-agreeing claim-of kind-found matching smallest or-next or-zero clash-pattern least-with disagreement agreement-fault
 starred-right =
     ((refl, refl), (refl, ((refl, refl), (refl, ((refl, refl), (refl, ((refl, refl), (refl, (refl, (refl, (refl, ((refl, refl), (refl, (refl, (refl, (refl, (refl, (refl, (refl, tt)))))))))))))))))))

@@ -11,12 +11,12 @@ use borrow.Fn.Kinds.{Dens, resT, endedOf}
 use denote.Ref.{at-last}
 use denote.Triple.Clauses.{AtExit}
 use lib.ListN.{length, replicate}
-use Rattle.bits.specs.Bits.{bit, number, every, any, count}
-use Rattle.cubes.specs.Cubes.{cube-holds, cubes-share, some-cube}
+use Rattle.bits.specs.Bits.{bit, number, every, any, count, smallest, or-next, or-zero}
+use Rattle.cubes.specs.Cubes.{cube-holds, cubes-share, some-cube, least-with}
 use Rattle.answers.specs.declared.Answer.{Answer}
-use Rattle.answers.specs.Answers.{accepted, refused, _then_, by, byte-fault, length-fault, fits, buffer-after}
+use Rattle.answers.specs.Answers.{accepted, refused, refused-at, _then_, by, byte-fault, length-fault, fits, buffer-after}
 use Rattle.rules.specs.Lists.{run, filter, passed-over, some-in, each-in, count-in, same}
-use Rattle.records.specs.Records.{on-list, off-list, cube-code, clash-code, first-fault, header-bytes, header-fault, record-fault}
+use Rattle.records.specs.Records.{on-list, off-list, cube-code, clash-code, clash-pattern, first-fault, header-bytes, header-fault, record-fault}
 use Rattle.writer.specs.Writing.{record-bytes}
 use Rattle.words.specs.Words.{onto, pieces, read-on, decimal-within, line}
 use Rattle.terms.specs.Terms.{keyword-line, says-by, well-formed, term-lines}
@@ -163,7 +163,10 @@ table-rows =
     -- 18 last, with the length needed; just enough room
     ∷ reads-of (lines-of (two-inputs ("11 1" ∷ "0- 0" ∷ "-0 0" ∷ ".e" ∷ []))) (free 10) (refused 18 4 11) (free 10)
     ∷ reads-of (lines-of (two-inputs ("11 1" ∷ "0- 0" ∷ "-0 0" ∷ ".e" ∷ []))) (free 11) (accepted 3 11) Conj
-    ∷ reads-of (lines-of (two-inputs ("11 1" ∷ "-1 0" ∷ ".e" ∷ []))) [] (refused 7 1 5) []
+    ∷ reads-of (lines-of (two-inputs ("11 1" ∷ "-1 0" ∷ ".e" ∷ []))) [] (refused-at 7 1 5 3) []
+    -- 7 with the smallest pattern of its own on cube, here 2, over all off cubes. Ruled out: 3, the largest and the first off cube's; 0,
+    -- that of the other on cube
+    ∷ reads-of (lines-of (two-inputs ("-1 1" ∷ "0- 1" ∷ "11 0" ∷ "0- 0" ∷ ".e" ∷ []))) [] (refused-at 7 1 5 2) []
     ∷ reads-of (lines-of (".i 9" ∷ [])) [] (refused 3 1 1) []
     -- export: on cubes first, then off cubes; no cube; eight inputs; ten terms
     ∷ is-written Conj (two-inputs (".p 3" ∷ "11 1" ∷ "0- 0" ∷ "-0 0" ∷ ".e" ∷ []))
@@ -178,8 +181,8 @@ table-rows =
     ∷ []
 
 pub table-rows-right : AllRight table-rows
-unfolding ascii lines-of bit number every any count cube-holds cubes-share some-cube _then_ by byte-fault length-fault fits buffer-after run filter passed-over some-in each-in count-in same on-list off-list cube-code clash-code first-fault header-bytes header-fault record-fault record-bytes onto pieces read-on decimal-within line keyword-line says-by well-formed term-lines of-keyword of-term is-end told line-code first-faulty table-fault up-to-end cubes-with record-of table-reading table-head table-of table-writing
-table-rows-right = ((refl, refl), ((refl, refl), ((refl, refl), ((refl, refl), ((refl, refl), ((refl, refl), ((refl, refl), ((refl, refl), ((refl, refl), ((refl, refl), ((refl, refl), ((refl, refl), ((refl, refl), ((refl, refl), ((refl, refl), ((refl, refl), ((refl, refl), ((refl, refl), ((refl, refl), ((refl, refl), ((refl, refl), ((refl, refl), ((refl, refl), ((refl, refl), ((refl, refl), ((refl, refl), ((refl, refl), ((refl, refl), ((refl, refl), ((refl, refl), ((refl, refl), ((refl, refl), ((refl, refl), ((refl, refl), ((refl, refl), ((refl, refl), ((refl, refl), ((refl, refl), ((refl, refl), ((refl, refl), ((refl, refl), ((refl, refl), ((refl, refl), ((refl, refl), ((refl, refl), ((refl, refl), ((refl, refl), ((refl, refl), ((refl, refl), ((refl, refl), ((refl, refl), ((refl, refl), ((refl, refl), ((refl, refl), ((refl, refl), ((refl, refl), ((refl, refl), ((refl, refl), ((refl, refl), ((refl, refl), ((refl, refl), ((refl, refl), ((refl, refl), ((refl, refl), ((refl, refl), ((refl, refl), ((refl, refl), ((refl, refl), ((refl, refl), ((refl, refl), ((refl, refl), ((refl, refl), ((refl, refl), ((refl, refl), ((refl, refl), ((refl, refl), ((refl, refl), ((refl, refl), tt))))))))))))))))))))))))))))))))))))))))))))))))))))))))))))))))))))))))))))))
+unfolding ascii lines-of bit number every any count cube-holds cubes-share some-cube _then_ by byte-fault length-fault fits buffer-after run filter passed-over some-in each-in count-in same on-list off-list cube-code clash-code first-fault header-bytes header-fault record-fault record-bytes onto pieces read-on decimal-within line keyword-line says-by well-formed term-lines of-keyword of-term is-end told line-code first-faulty table-fault up-to-end cubes-with record-of table-reading table-head table-of table-writing smallest or-next or-zero clash-pattern least-with
+table-rows-right = ((refl, refl), ((refl, refl), ((refl, refl), ((refl, refl), ((refl, refl), ((refl, refl), ((refl, refl), ((refl, refl), ((refl, refl), ((refl, refl), ((refl, refl), ((refl, refl), ((refl, refl), ((refl, refl), ((refl, refl), ((refl, refl), ((refl, refl), ((refl, refl), ((refl, refl), ((refl, refl), ((refl, refl), ((refl, refl), ((refl, refl), ((refl, refl), ((refl, refl), ((refl, refl), ((refl, refl), ((refl, refl), ((refl, refl), ((refl, refl), ((refl, refl), ((refl, refl), ((refl, refl), ((refl, refl), ((refl, refl), ((refl, refl), ((refl, refl), ((refl, refl), ((refl, refl), ((refl, refl), ((refl, refl), ((refl, refl), ((refl, refl), ((refl, refl), ((refl, refl), ((refl, refl), ((refl, refl), ((refl, refl), ((refl, refl), ((refl, refl), ((refl, refl), ((refl, refl), ((refl, refl), ((refl, refl), ((refl, refl), ((refl, refl), ((refl, refl), ((refl, refl), ((refl, refl), ((refl, refl), ((refl, refl), ((refl, refl), ((refl, refl), ((refl, refl), ((refl, refl), ((refl, refl), ((refl, refl), ((refl, refl), ((refl, refl), ((refl, refl), ((refl, refl), ((refl, refl), ((refl, refl), ((refl, refl), ((refl, refl), ((refl, refl), ((refl, refl), ((refl, refl), ((refl, refl), tt)))))))))))))))))))))))))))))))))))))))))))))))))))))))))))))))))))))))))))))))
 
 -- ---- over the contracts: whatever outcome the contract allows at what a right row asks is the row's
 

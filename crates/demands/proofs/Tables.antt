@@ -13,7 +13,7 @@ use denote.Triple.Clauses.{AtExit}
 use lib.ListN.{length, take}
 use Rattle.bits.proofs.Tests.{below-or-not}
 use Rattle.answers.specs.declared.Answer.{Answer}
-use Rattle.answers.specs.Answers.{accepted, refused, fits, Delivered, Tells}
+use Rattle.answers.specs.Answers.{accepted, refused-by, fits, Delivered, Tells}
 use Rattle.answers.proofs.Faults.{by-both, by-next, by-stop}
 use Rattle.answers.proofs.Stores.{Stands, delivered-stands, delivered-unchanged}
 use Rattle.answers.proofs.Told.{told-fits}
@@ -94,7 +94,7 @@ module _ (κs : Lfts 2) (a : Dens κs read-table-kinds.ps) (r : resT read-table-
   pub table-refused : (r .code ≡ 0 → ⊥) → after ≡ before
   table-refused bad = delivered-unchanged _ _ _ _ r p bad
 
-  by-line : (table-fault text .code ≡ 0 → ⊥) → r ≡ refused (table-fault text .code) 1 (table-fault text .place)
+  by-line : (table-fault text .code ≡ 0 → ⊥) → r ≡ refused-by 1 (table-fault text)
   unfolding table-reading
   by-line bad = p .returned ∙ sym (by-stop 1 (table-fault text) (table-fault text) _ _ refl bad refl)
 
@@ -106,7 +106,7 @@ module _ (κs : Lfts 2) (a : Dens κs read-table-kinds.ps) (r : resT read-table-
     pub table-first : (r .«record» ≡ 1) × FirstFaulty said (r .code) (r .place)
     table-first = (
       ap (λ (x : Answer). x .«record») (by-line bad),
-      subst (λ (x : Answer). FirstFaulty said (x .code) (x .place)) (sym (by-line bad)) (first-faulty-named text _ _ bad refl),
+      subst (λ (x : Answer). FirstFaulty said (x .code) (x .place)) (sym (by-line bad)) (first-faulty-named text bad),
     )
 
     -- and its code is the first in the request's order at that line, or 21 at the line after the last
@@ -173,9 +173,9 @@ module _ (κs : Lfts 2) (a : Dens κs zap-read-table-kinds.ps) (r : resT zap-rea
   answer = table-reading (a .0 .now) (length (a .1 .0 .now))
 
   -- the reader's answer as it is, wherever its place fits
-  pub zap-read-table-tells : answer .place < 2 ^ 40 → Tells answer r
+  pub zap-read-table-tells : answer .place < 2 ^ 32 → Tells answer r
   zap-read-table-tells h = subst (λ (x : Answer). Tells x r) (told-fits answer (omega (arith, h))) (p .1 .0)
 
   -- and it does for each text that is shorter than the largest place
-  pub zap-read-table-tells-all : length (a .0 .now) + 1 < 2 ^ 40 → Tells answer r
+  pub zap-read-table-tells-all : length (a .0 .now) + 1 < 2 ^ 32 → Tells answer r
   zap-read-table-tells-all h = zap-read-table-tells (table-reading-place (a .0 .now) (length (a .1 .0 .now)) h)

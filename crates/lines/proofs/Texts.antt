@@ -17,54 +17,67 @@ use Rattle.lines.specs.Lines.{hex, answer-line, text}
 
 -- ---- an answer's line
 
--- the numbers of an answer: bytes, and a place of 64 bits
+-- the numbers of an answer: bytes, but for a place of 64 bits
 pub record Digits (a : Answer) : Type 0 where
   pub code-digits : length (decimal (a .code)) ≤ 3
   pub kind-digits : length (decimal (a .kind)) ≤ 3
   pub record-digits : length (decimal (a .«record»)) ≤ 3
   pub place-digits : length (decimal (a .place)) ≤ 20
+  pub pattern-digits : length (decimal (a .pattern)) ≤ 3
 
-pub digits-most : (a : Answer) → a .code < 2 ^ 8 → a .kind < 2 ^ 8 → a .«record» < 2 ^ 8 → a .place < 2 ^ 64 → Digits a
-digits-most a code kind who place =
+pub digits-most : (a : Answer) → a .code < 2 ^ 8 → a .kind < 2 ^ 8 → a .«record» < 2 ^ 8 → a .place < 2 ^ 64 → a .pattern < 2 ^ 8 → Digits a
+digits-most a code kind who place pattern =
     record {
       code-digits = decimal-most 2 (a .code) (omega (arith, code));
       kind-digits = decimal-most 2 (a .kind) (omega (arith, kind));
       record-digits = decimal-most 2 (a .«record») (omega (arith, who));
       place-digits = decimal-most 19 (a .place) (omega (arith, place));
+      pattern-digits = decimal-most 2 (a .pattern) (omega (arith, pattern));
     }
 
--- the line of an answer: four numbers, each with the character after it
-pub answer-words : (a : Answer) → answer-line a ≡ (decimal (a .code) ++ (32 ∷ [])) ++ ((decimal (a .kind) ++ (32 ∷ [])) ++ ((decimal (a .«record») ++ (32 ∷ [])) ++ (decimal (a .place) ++ (10 ∷ []))))
+-- the line of an answer: five numbers, each with the character after it
+pub answer-words : (a : Answer)
+    → answer-line a ≡ (decimal (a .code) ++ (32 ∷ [])) ++ ((decimal (a .kind) ++ (32 ∷ [])) ++ ((decimal (a .«record») ++ (32 ∷ [])) ++ ((decimal (a .place) ++ (32 ∷ [])) ++ (decimal (a .pattern) ++ (10 ∷ [])))))
 unfolding answer-line line
 answer-words a =
     let code = decimal (a .code) in
     let kind = decimal (a .kind) in
     let who = decimal (a .«record») in
     let place = decimal (a .place) in
-    word-next code kind (who ∷ place ∷ [])
-    ∙ ap (λ (l : List ℕ). (code ++ (32 ∷ [])) ++ l) (word-next kind who (place ∷ []) ∙ ap (λ (l : List ℕ). (kind ++ (32 ∷ [])) ++ l) (word-next who place []))
+    let pattern = decimal (a .pattern) in
+    word-next code kind (who ∷ place ∷ pattern ∷ [])
+    ∙ ap (λ (l : List ℕ). (code ++ (32 ∷ [])) ++ l) (word-next kind who (place ∷ pattern ∷ [])
+    ∙ ap (λ (l : List ℕ). (kind ++ (32 ∷ [])) ++ l) (word-next who place (pattern ∷ [])
+    ∙ ap (λ (l : List ℕ). (who ++ (32 ∷ [])) ++ l) (word-next place pattern [])))
 
 -- stored one behind the other, they are the line
-module _ (a : Answer) (out out₁ out₂ out₃ out₄ : List ℕ) (end₁ end₂ end₃ end₄ : ℕ) where
+module _ (a : Answer) (out out₁ out₂ out₃ out₄ out₅ : List ℕ) (end₁ end₂ end₃ end₄ end₅ : ℕ) where
   pub answer-stored : end₁ ≡ 0 + length (decimal (a .code)) + 1 → out₁ ≡ sets out 0 (decimal (a .code) ++ (32 ∷ []))
       → end₂ ≡ end₁ + length (decimal (a .kind)) + 1 → out₂ ≡ sets out₁ end₁ (decimal (a .kind) ++ (32 ∷ []))
       → end₃ ≡ end₂ + length (decimal (a .«record»)) + 1 → out₃ ≡ sets out₂ end₂ (decimal (a .«record») ++ (32 ∷ []))
-      → end₄ ≡ end₃ + length (decimal (a .place)) + 1 → out₄ ≡ sets out₃ end₃ (decimal (a .place) ++ (10 ∷ []))
-      → (end₄ ≡ length (answer-line a)) × (out₄ ≡ sets out 0 (answer-line a))
-  answer-stored e₁ s₁ e₂ s₂ e₃ s₃ e₄ s₄ =
+      → end₄ ≡ end₃ + length (decimal (a .place)) + 1 → out₄ ≡ sets out₃ end₃ (decimal (a .place) ++ (32 ∷ []))
+      → end₅ ≡ end₄ + length (decimal (a .pattern)) + 1 → out₅ ≡ sets out₄ end₄ (decimal (a .pattern) ++ (10 ∷ []))
+      → (end₅ ≡ length (answer-line a)) × (out₅ ≡ sets out 0 (answer-line a))
+  answer-stored e₁ s₁ e₂ s₂ e₃ s₃ e₄ s₄ e₅ s₅ =
       let code = decimal (a .code) ++ (32 ∷ []) in
       let kind = decimal (a .kind) ++ (32 ∷ []) in
       let who = decimal (a .«record») ++ (32 ∷ []) in
-      let place = decimal (a .place) ++ (10 ∷ []) in
+      let place = decimal (a .place) ++ (32 ∷ []) in
+      let pattern = decimal (a .pattern) ++ (10 ∷ []) in
       let l₁ = length-append (decimal (a .code)) (32 ∷ []) in
       let l₂ = length-append (decimal (a .kind)) (32 ∷ []) in
       let l₃ = length-append (decimal (a .«record»)) (32 ∷ []) in
-      let l₄ = length-append (decimal (a .place)) (10 ∷ []) in (
-        omega (arith, e₁, e₂, e₃, e₄, l₁, l₂, l₃, l₄, ap length (answer-words a), length-append code (kind ++ (who ++ place)), length-append kind (who ++ place), length-append who place),
-        s₄
-            ∙ behind out₂ who out₃ end₂ end₃ place s₃ (omega (arith, e₃, l₃))
-            ∙ behind out₁ kind out₂ end₁ end₂ (who ++ place) s₂ (omega (arith, e₂, l₂))
-            ∙ behind out code out₁ 0 end₁ (kind ++ (who ++ place)) s₁ (omega (arith, e₁, l₁))
+      let l₄ = length-append (decimal (a .place)) (32 ∷ []) in
+      let l₅ = length-append (decimal (a .pattern)) (10 ∷ []) in
+      let rest₄ = place ++ pattern in
+      let rest₃ = who ++ rest₄ in
+      let rest₂ = kind ++ rest₃ in (
+        omega (arith, e₁, e₂, e₃, e₄, e₅, l₁, l₂, l₃, l₄, l₅, ap length (answer-words a), length-append code rest₂, length-append kind rest₃, length-append who rest₄, length-append place pattern),
+        s₅
+            ∙ behind out₃ place out₄ end₃ end₄ pattern s₄ (omega (arith, e₄, l₄))
+            ∙ behind out₂ who out₃ end₂ end₃ rest₄ s₃ (omega (arith, e₃, l₃))
+            ∙ behind out₁ kind out₂ end₁ end₂ rest₃ s₂ (omega (arith, e₂, l₂))
+            ∙ behind out code out₁ 0 end₁ rest₂ s₁ (omega (arith, e₁, l₁))
             ∙ ap (sets out 0) (sym (answer-words a)),
       )
 

@@ -16,9 +16,9 @@ use Rattle.matcher.specs.Matching.{matching, claim-for}
 abbrev pub hex : ℕ → List ℕ
 hex b = digit (b / 16) ∷ digit (b % 16) ∷ []
 
--- code, kind, record and place in decimal
+-- code, kind, record, place and pattern in decimal
 unfoldable pub answer-line : Answer → List ℕ
-answer-line a = line (map decimal (a .code ∷ a .kind ∷ a .«record» ∷ a .place ∷ []))
+answer-line a = line (map decimal (a .code ∷ a .kind ∷ a .«record» ∷ a .place ∷ a .pattern ∷ []))
 
 -- an answer, and under it the bytes of a claim, if there is one
 unfoldable pub text : Answer → List ℕ → List ℕ

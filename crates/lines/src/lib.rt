@@ -43,17 +43,18 @@ fn what_follows(input: &[u8]) -> &[u8]
     &input[end..]
 }
 
-// The line of an answer at the buffer's start; 33 bytes hold the longest, three numbers of three digits and one of twenty.
+// The line of an answer at the buffer's start; 37 bytes hold the longest, four numbers of three digits and one of twenty.
 fn put_answer(answer: Answer, out: &mut [u8]) -> usize
-    requires { ⌜ 33 ≤ length (now out) ⌝ }
-    ensures { λ r. ⌜ r ≤ 33 ⌝ }
+    requires { ⌜ 37 ≤ length (now out) ⌝ }
+    ensures { λ r. ⌜ r ≤ 37 ⌝ }
     ensures { λ r. ⌜ r ≡ length (answer-line answer) ⌝ }
     ensures { λ r. ⌜ now (out .exit) ≡ sets (now (out .entry)) 0 (answer-line answer) ⌝ }
 {
     let kind = words::put_number(answer.code as u64, b' ', out, 0);
     let record = words::put_number(answer.kind as u64, b' ', out, kind);
     let place = words::put_number(answer.record as u64, b' ', out, record);
-    words::put_number(answer.place as u64, b'\n', out, place)
+    let pattern = words::put_number(answer.place as u64, b' ', out, place);
+    words::put_number(answer.pattern as u64, b'\n', out, pattern)
 }
 
 // What follows a word: a blank where `i` of `count` words are done, LF where all are.
@@ -89,10 +90,10 @@ fn put_hex(bytes: &[u8], out: &mut [u8], start: usize)
 // The text of an answer, and under it that of a claim, if there is room for both.
 fn put_text(answer: Answer, claim: &[u8], out: &mut [u8]) -> usize
     requires { ⌜ length (now claim) ≤ 4096 ⌝ }
-    ensures { λ r. ⌜ r ≤ 33 + 3 * length (now (claim .entry)) ⌝ }
+    ensures { λ r. ⌜ r ≤ 37 + 3 * length (now (claim .entry)) ⌝ }
     ensures { λ r. ⌜ Leaves (length (text answer (now (claim .entry)))) (text answer (now (claim .entry))) (now (out .entry)) (now (out .exit)) r ⌝ }
 {
-    let mut first = [0u8; 33];
+    let mut first = [0u8; 37];
     let len = put_answer(answer, &mut first);
     let needed = len + 3 * claim.len();
     if out.len() < needed {
@@ -120,9 +121,9 @@ fn shown(answer: Answer) -> usize
     0
 }
 
-// What the match program prints for its input, if it fits, and the length of it, which is never above 33 + 3·4,096.
+// What the match program prints for its input, if it fits, and the length of it, which is never above 37 + 3·4,096.
 pub fn match_lines(input: &[u8], out: &mut [u8]) -> usize
-    ensures { λ r. ⌜ r ≤ 12321 ⌝ }
+    ensures { λ r. ⌜ r ≤ 12325 ⌝ }
     ensures { λ r. ⌜ Leaves (length (match-lines (now (input .entry)))) (match-lines (now (input .entry))) (now (out .entry)) (now (out .exit)) r ⌝ }
 {
     let f = this_record(input);
@@ -135,7 +136,7 @@ pub fn match_lines(input: &[u8], out: &mut [u8]) -> usize
 
 // What the check program prints for its input, if it fits, and the length of it: one line.
 pub fn check_lines(input: &[u8], out: &mut [u8]) -> usize
-    ensures { λ r. ⌜ r ≤ 33 ⌝ }
+    ensures { λ r. ⌜ r ≤ 37 ⌝ }
     ensures { λ r. ⌜ Leaves (length (check-lines (now (input .entry)))) (check-lines (now (input .entry))) (now (out .entry)) (now (out .exit)) r ⌝ }
 {
     let f = this_record(input);

@@ -12,10 +12,10 @@ fn two_records() -> [u8; 2050]
 }
 
 // Room for the text, which is never longer.
-fn two_lines() -> [u8; 12321]
-    ensures { λ r. ⌜ 12321 ≡ length r ⌝ }
+fn two_lines() -> [u8; 12325]
+    ensures { λ r. ⌜ 12325 ≡ length r ⌝ }
 {
-    [0; 12321]
+    [0; 12325]
 }
 
 fn main() {

@@ -12,9 +12,9 @@ use Rattle.partial.specs.declared.Found.{Found}
 use Rattle.checker.specs.Checking.{choices-fault}
 use Rattle.partial.specs.Partial.{found}
 
--- the answer as one number, its place taken modulo 2^40
+-- the answer as one number, its place taken modulo 2^32
 unfoldable pub packed-mod : Answer → ℕ
-packed-mod a = packed (record { code = a .code; kind = a .kind; «record» = a .«record»; place = a .place % 2 ^ 40 })
+packed-mod a = packed (record { code = a .code; kind = a .kind; «record» = a .«record»; place = a .place % 2 ^ 32; pattern = a .pattern })
 
 -- the three numbers beside the reader's answer
 abbrev pub counts-of : Reading → List ℕ

@@ -15,7 +15,8 @@ fn packed_mod(answer: Answer) -> u64
         code: answer.code,
         kind: answer.kind,
         record: answer.record,
-        place: answer.place % 0x100_0000_0000,
+        place: answer.place % 0x1_0000_0000,
+        pattern: answer.pattern,
     })
 }
 

@@ -4,4 +4,5 @@ pub mod Frame
 pub mod Cubes
 pub mod Places
 pub mod Meaning
+pub mod Patterns
 pub mod Settled

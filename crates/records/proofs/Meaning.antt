@@ -13,8 +13,8 @@ use Rattle.bits.proofs.Below.{any-at, any-if, count-apart, count-under}
 use Rattle.cubes.specs.Cubes.{cube-names, cubes-share, some-cube, some-holds, open-at, patterns-held, inputs-used}
 use Rattle.cubes.proofs.Lists.{Each, each-some}
 use Rattle.answers.specs.declared.Fault.{Fault}
-use Rattle.answers.specs.Answers.{fault}
-use Rattle.records.specs.Records.{inputs, cubes-at, on-list, off-list, cube-code, clash-code, first-fault, header-fault, cubes-fault, clash-fault, record-fault}
+use Rattle.answers.specs.Answers.{fault-at}
+use Rattle.records.specs.Records.{inputs, cubes-at, on-list, off-list, cube-code, clash-code, clash-pattern, first-fault, header-fault, cubes-fault, clash-fault, record-fault}
 use Rattle.records.proofs.Frame.{record-sound, ends-at-clash}
 use Rattle.records.proofs.Cubes.{first-each, on-each, off-each, clash-means}
 use Rattle.records.proofs.Places.{record-cases, header-codes, first-codes, cube-codes}
@@ -30,14 +30,14 @@ module _ (t : ℕ → ℕ → Bool) where
   abbrev seven : ℕ → ℕ → ℕ
   seven P N = cond (t P N) 7 0
 
-  seven-some : (l : List ℕ) (at : ℕ) → first-fault seven l at .code ≡ cond (some-cube t l) 7 0
+  seven-some : (pattern : ℕ → ℕ → ℕ) (l : List ℕ) (at : ℕ) → first-fault seven pattern l at .code ≡ cond (some-cube t l) 7 0
   unfolding first-fault some-cube
-  seven-some [] at = refl
-  seven-some (P ∷ []) at = refl
-  seven-some (P ∷ N ∷ l) at =
-      elim (t P N) as (λ b. cond (eqb (cond b 7 0) 0) (first-fault seven l (at + 2)) (fault (cond b 7 0) at) .code ≡ cond (b || some-cube t l) 7 0) [
+  seven-some pattern [] at = refl
+  seven-some pattern (P ∷ []) at = refl
+  seven-some pattern (P ∷ N ∷ l) at =
+      elim (t P N) as (λ b. cond (eqb (cond b 7 0) 0) (first-fault seven pattern l (at + 2)) (fault-at (cond b 7 0) at (pattern P N)) .code ≡ cond (b || some-cube t l) 7 0) [
         | true ↦ refl
-        | false ↦ seven-some l (at + 2)
+        | false ↦ seven-some pattern l (at + 2)
       ]
 
 -- each cube of an accepted record has no code
@@ -45,16 +45,16 @@ abbrev pub Coded : ℕ → List ℕ → Type 0
 Coded n l = Each (λ P N. cube-code n P N ≡ 0) l
 
 pub each-on : (s : List ℕ) → record-fault s .code ≡ 0 → Coded (inputs s) (on-list s)
-each-on s e = on-each _ s (first-each _ _ _ (record-sound s e .cubes))
+each-on s e = on-each _ s (first-each _ _ _ _ (record-sound s e .cubes))
 
 pub each-off : (s : List ℕ) → record-fault s .code ≡ 0 → Coded (inputs s) (off-list s)
-each-off s e = off-each _ s (first-each _ _ _ (record-sound s e .cubes))
+each-off s e = off-each _ s (first-each _ _ _ _ (record-sound s e .cubes))
 
 -- the code of the last part of the reading, on patterns
 clash-code-is : (s : List ℕ) → clash-fault s .code ≡ cond (any (2 ^ inputs s) (λ x. some-holds (on-list s) x && some-holds (off-list s) x)) 7 0
 unfolding clash-code
 clash-code-is s =
-    seven-some (λ P N. some-cube (cubes-share (inputs s) P N) (off-list s)) (on-list s) (cubes-at s)
+    seven-some (λ P N. some-cube (cubes-share (inputs s) P N) (off-list s)) (clash-pattern (inputs s) (off-list s)) (on-list s) (cubes-at s)
     ∙ ap {B = ℕ} (λ (b : Bool). cond b 7 0) (clash-means (inputs s) (on-list s) (off-list s))
 
 both-on-off : List ℕ → ℕ → Bool
@@ -66,7 +66,7 @@ unfolding both-on-off
 seven-both s =
     record-cases (λ (f : Fault). f .code ≡ 7 → Both s) s
     (λ e. absurd (header-codes (λ (c : ℕ). c ≡ 7 → ⊥) (eqb-false 0 7 refl) s (eqb-false 1 7 refl) (eqb-false 2 7 refl) (eqb-false 3 7 refl) (eqb-false 4 7 refl) (eqb-false 8 7 refl) e))
-    (λ _ e. absurd (first-codes (λ (c : ℕ). c ≡ 7 → ⊥) (eqb-false 0 7 refl) _ _ _ (λ P N. cube-codes (λ (c : ℕ). c ≡ 7 → ⊥) (eqb-false 0 7 refl) _ P N (eqb-false 5 7 refl) (eqb-false 6 7 refl)) e))
+    (λ _ e. absurd (first-codes (λ (c : ℕ). c ≡ 7 → ⊥) (eqb-false 0 7 refl) _ _ _ _ (λ P N. cube-codes (λ (c : ℕ). c ≡ 7 → ⊥) (eqb-false 0 7 refl) _ P N (eqb-false 5 7 refl) (eqb-false 6 7 refl)) e))
     (λ _ e.
     let w = any-at (both-on-off s) (2 ^ inputs s) (found _ (sym (clash-code-is s) ∙ e)) in
     let on = some-holds (on-list s) (w .0) in

@@ -5,11 +5,11 @@ use mathlib.Core.Bool.{Bool, cond, _&&_}
 use mathlib.Core.List.{List, [], _∷_}
 use lib.Dec.{leb, eqb}
 use lib.ListN.{length, getD, take, drop}
-use Rattle.bits.specs.Bits.{has, any}
-use Rattle.cubes.specs.Cubes.{cube-names, cubes-share, some-cube, patterns-held, inputs-used}
+use Rattle.bits.specs.Bits.{has, any, or-zero}
+use Rattle.cubes.specs.Cubes.{cube-names, cubes-share, some-cube, least-with, patterns-held, inputs-used}
 use Rattle.answers.specs.declared.Answer.{Answer}
 use Rattle.answers.specs.declared.Fault.{Fault}
-use Rattle.answers.specs.Answers.{accepted, refused, fine, fault, sound, is-sound, byte-fault, length-fault, _then_, by}
+use Rattle.answers.specs.Answers.{accepted, refused, fine, fault-at, sound, is-sound, byte-fault, length-fault, _then_, refused-by, by}
 use Rattle.records.specs.declared.Reading.{Reading}
 use Rattle.records.specs.declared.Figures.{Figures}
 
@@ -50,11 +50,20 @@ cube-code n P N = cond (any 8 (λ i. leb n i && cube-names P N i)) 5 (cond (any 
 unfoldable pub clash-code : ℕ → List ℕ → ℕ → ℕ → ℕ
 clash-code n off P N = cond (some-cube (cubes-share n P N) off) 7 0
 
--- the first cube of a list whose code is not 0; its first byte's place, where the list starts at place `at`
-unfoldable pub first-fault : (ℕ → ℕ → ℕ) → List ℕ → ℕ → Fault
-first-fault code [] at = sound
-first-fault code (P ∷ []) at = sound
-first-fault code (P ∷ N ∷ rest) at = cond (eqb (code P N) 0) (first-fault code rest (at + 2)) (fault (code P N) at)
+-- and the pattern that goes with it: the smallest that the cube shares with any cube of the off list
+unfoldable pub clash-pattern : ℕ → List ℕ → ℕ → ℕ → ℕ
+clash-pattern n off P N = or-zero (least-with n P N off)
+
+-- no other code names a pattern
+abbrev pub no-pattern : ℕ → ℕ → ℕ
+no-pattern P N = 0
+
+-- the first cube of a list whose code is not 0: its first byte's place, where the list starts at place `at`, and its pattern
+unfoldable pub first-fault : (ℕ → ℕ → ℕ) → (ℕ → ℕ → ℕ) → List ℕ → ℕ → Fault
+first-fault code pattern [] at = sound
+first-fault code pattern (P ∷ []) at = sound
+first-fault code pattern (P ∷ N ∷ rest) at =
+    cond (eqb (code P N) 0) (first-fault code pattern rest (at + 2)) (fault-at (code P N) at (pattern P N))
 
 -- header bytes one by one, then the length
 unfoldable pub header-bytes : List ℕ → Fault
@@ -70,11 +79,11 @@ header-fault s = header-bytes s then length-fault (length s) (record-end s)
 
 -- the cubes in order
 abbrev pub cubes-fault : List ℕ → Fault
-cubes-fault s = first-fault (cube-code (inputs s)) (drop (cubes-at s) s) (cubes-at s)
+cubes-fault s = first-fault (cube-code (inputs s)) no-pattern (drop (cubes-at s) s) (cubes-at s)
 
 -- the on cubes against the off cubes
 abbrev pub clash-fault : List ℕ → Fault
-clash-fault s = first-fault (clash-code (inputs s) (off-list s)) (on-list s) (cubes-at s)
+clash-fault s = first-fault (clash-code (inputs s) (off-list s)) (clash-pattern (inputs s) (off-list s)) (on-list s) (cubes-at s)
 
 unfoldable pub record-fault : List ℕ → Fault
 record-fault s = header-fault s then cubes-fault s then clash-fault s
@@ -87,7 +96,7 @@ with-counts answer n a b = record { answer = answer; n = n; a = a; b = b }
 
 -- refused for the record's fault, as record 1
 abbrev pub refusal : List ℕ → Answer
-refusal s = refused (record-fault s .code) 1 (record-fault s .place)
+refusal s = refused-by 1 (record-fault s)
 
 unfoldable pub reading : List ℕ → Reading
 reading s =

@@ -4,10 +4,11 @@ ghost use mathlib.Core.Path.{_≡_};
 ghost use Prim.Native.Nat.{_≤_};
 ghost use lib.ListN.{length, drop};
 ghost use denote.Ref.{ptr};
-ghost use Rattle.records.specs.Records.{cube-code, clash-code, first-fault, header-fault, record-fault, reading, summing, both-read};
+ghost use Rattle.records.specs.Records.{cube-code, clash-code, clash-pattern, no-pattern, first-fault, header-fault, record-fault, reading, summing, both-read};
 ghost use Rattle.records.specs.Records.{record-end, on-list as on-bytes, off-list as off-bytes, is-cubes, AtFault};
 use answers::Answer;
 use answers::Fault;
+use cubes::Shared;
 
 // The reader's answer, with n, a and b.
 pub struct Reading {
@@ -49,32 +50,51 @@ fn cube_code(pos: u8, neg: u8, n: u8) -> u8
 pub fn cubes_fault(list: &[u8], from: usize, n: u8) -> Fault
     requires { ⌜ n ≤ 8 ⌝ }
     requires { ⌜ from ≤ length (now list) ⌝ }
-    ensures { λ r. ⌜ r ≡ first-fault (cube-code n) (drop from (now (list .entry))) from ⌝ }
+    ensures { λ r. ⌜ r ≡ first-fault (cube-code n) no-pattern (drop from (now (list .entry))) from ⌝ }
 {
     let mut at = from;
     while at + 1 < list.len() {
         let code = cube_code(list[at], list[at + 1], n);
         if code != 0 {
-            return Fault { code, place: at };
+            return Fault {
+                code,
+                place: at,
+                pattern: 0,
+            };
         }
         at += 2;
     }
-    Fault { code: 0, place: 0 }
+    Fault {
+        code: 0,
+        place: 0,
+        pattern: 0,
+    }
 }
 
-// The first on cube from `from` on that shares a pattern with an off cube.
+// The first on cube from `from` on that shares a pattern with an off cube, and the smallest that it shares with any.
 pub fn clash_fault(on: &[u8], from: usize, off: &[u8]) -> Fault
     requires { ⌜ from ≤ length (now on) ⌝ }
-    ensures { λ r. ⌜ r ≡ first-fault (clash-code 8 (now (off .entry))) (drop from (now (on .entry))) from ⌝ }
+    ensures { λ r. ⌜ r ≡ first-fault (clash-code 8 (now (off .entry))) (clash-pattern 8 (now (off .entry))) (drop from (now (on .entry))) from ⌝ }
 {
     let mut at = from;
     while at + 1 < on.len() {
-        if cubes::any_shares(on[at], on[at + 1], off) {
-            return Fault { code: 7, place: at };
+        match cubes::least_with(on[at], on[at + 1], off) {
+            Shared::Nowhere => {}
+            Shared::At(pattern) => {
+                return Fault {
+                    code: 7,
+                    place: at,
+                    pattern,
+                };
+            }
         }
         at += 2;
     }
-    Fault { code: 0, place: 0 }
+    Fault {
+        code: 0,
+        place: 0,
+        pattern: 0,
+    }
 }
 
 // Where a record ends, by its header.
@@ -146,7 +166,7 @@ pub fn read(s: &[u8]) -> Reading
     let fault = record_fault(s);
     if fault.code != 0 {
         return Reading {
-            answer: answers::refused(fault.code, 1, fault.place),
+            answer: answers::refused_by(1, fault),
             n: 0,
             a: 0,
             b: 0,
@@ -167,7 +187,7 @@ pub fn summary(s: &[u8]) -> Figures
     let fault = record_fault(s);
     if fault.code != 0 {
         return Figures {
-            answer: answers::refused(fault.code, 1, fault.place),
+            answer: answers::refused_by(1, fault),
             on: 0,
             off: 0,
             used: 0,
@@ -189,11 +209,11 @@ pub fn both(f: &[u8], g: &[u8]) -> Answer
 {
     let in_f = record_fault(f);
     if in_f.code != 0 {
-        return answers::refused(in_f.code, 1, in_f.place);
+        return answers::refused_by(1, in_f);
     }
     let in_g = record_fault(g);
     if in_g.code != 0 {
-        return answers::refused(in_g.code, 2, in_g.place);
+        return answers::refused_by(2, in_g);
     }
     if f[2] != g[2] {
         return answers::refused(9, 2, 2);

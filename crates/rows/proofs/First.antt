@@ -76,9 +76,9 @@ pub record FirstFaulty (said : List Says) (code line : ℕ) : Type 0 where
   pub before : AllPassed said index
   pub here : ((index < length said) × (code-at said index ≡ code)) ⊎ ((index ≡ length said) × (code ≡ 21))
 
-pub first-faulty-named : (text : List ℕ) (code line : ℕ) → (code ≡ 0 → ⊥) → table-fault text ≡ fault code line → FirstFaulty (map says (lines text)) code line
+pub first-faulty-named : (text : List ℕ) → (table-fault text .code ≡ 0 → ⊥) → FirstFaulty (map says (lines text)) (table-fault text .code) (table-fault text .place)
 unfolding table-fault
-first-faulty-named text code line bad e = subst Named e named bad
+first-faulty-named text = named
   where
     said : List Says
     said = map says (lines text)

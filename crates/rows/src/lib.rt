@@ -2,7 +2,7 @@
 ghost use mathlib.Core.Path.{_≡_};
 ghost use Prim.Native.Nat.{_^_, _<_};
 ghost use lib.ListN.{length};
-ghost use Rattle.answers.specs.Answers.{fault as fault-at};
+ghost use Rattle.answers.specs.Answers.{fault as fault-of};
 ghost use Rattle.rows.specs.Known.{all-known, if-repeated, inputs-code, term-code, end-code, code-by, more-if, learnt, ends-with, cube-in, kept, Gathered};
 use answers::Fault;
 use terms::Cube;
@@ -215,10 +215,14 @@ pub struct Scan {
 }
 
 fn stopped(code: u8, row: usize) -> Scan
-    ensures { λ r. ⌜ r .fault ≡ fault-at code row ⌝ }
+    ensures { λ r. ⌜ r .fault ≡ fault-of code row ⌝ }
 {
     Scan {
-        fault: Fault { code, place: row },
+        fault: Fault {
+            code,
+            place: row,
+            pattern: 0,
+        },
         n: 0,
         on: 0,
         off: 0,
@@ -252,7 +256,11 @@ pub fn gather(text: &[u8], on: &mut [u8], off: &mut [u8]) -> Scan
         }
         if ends(line) {
             return Scan {
-                fault: Fault { code: 0, place: 0 },
+                fault: Fault {
+                    code: 0,
+                    place: 0,
+                    pattern: 0,
+                },
                 n: known.n,
                 on: known.on,
                 off: known.off,

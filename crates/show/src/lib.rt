@@ -18,11 +18,13 @@ pub fn three(x: u64, y: u64, z: u64) {
     number(z);
 }
 
-// An answer's four numbers.
+// An answer's five numbers.
 pub fn numbers(found: Answer) {
     three(found.code as u64, found.kind as u64, found.record as u64);
     text(b" ");
     number(found.place as u64);
+    text(b" ");
+    number(found.pattern as u64);
 }
 
 // The case's name and the answer.

@@ -1,4 +1,4 @@
-// Runs the cases of W-201 through `read_table` and `write_table`, and prints a line for each: its name, the answer's four numbers,
+// Runs the cases of W-201 through `read_table` and `write_table`, and prints a line for each: its name, the answer's five numbers,
 // and the bytes of the lent buffer afterwards, each AA before. The texts come from standard input, case by case: a name on a line
 // of its own, and then the text, up to an @ that ends a line.
 ghost use mathlib.Core.Path.{_≡_};

@@ -13,14 +13,13 @@ use lib.Seq.{take-suc}
 use Rattle.bits.proofs.Tests.{both-left, below-or-not, cond-cases}
 use Rattle.answers.specs.declared.Answer.{Answer}
 use Rattle.answers.specs.declared.Fault.{Fault}
-use Rattle.answers.specs.Answers.{accepted, refused, fits}
+use Rattle.answers.specs.Answers.{accepted, refused, refused-by, fits}
 use Rattle.answers.proofs.Faults.{by-next, by-stop}
 use Rattle.answers.proofs.Stores.{fits-short, fits-enough}
 use Rattle.rules.specs.Lists.{some-in, same}
 use Rattle.rules.proofs.Lists.{same-is}
-use Rattle.cubes.specs.Cubes.{cubes-share, some-cube}
-use Rattle.records.specs.Records.{first-fault, clash-code, record-fault}
-use Rattle.records.proofs.Places.{first-codes}
+use Rattle.records.specs.Records.{first-fault, clash-code, clash-pattern, record-fault}
+use Rattle.records.proofs.Patterns.{clash-seven}
 use Rattle.writer.proofs.RoundTrip.{clash-again}
 use Rattle.words.specs.Words.{lines, value}
 use Rattle.terms.specs.Terms.{Says, nothing, keyword, term, end, malformed, unknown, says, dot-i, dot-o, on-char, off-char}
@@ -109,28 +108,21 @@ off-cubes text = cubes-with off-char (said-in text)
 
 -- where an on cube shares a pattern with an off cube, by its place in the record
 abbrev pub clash-in : List ℕ → Fault
-clash-in text = first-fault (clash-code (told dot-i (said-in text)) (off-cubes text)) (on-cubes text) 5
+clash-in text = first-fault (clash-code (told dot-i (said-in text)) (off-cubes text)) (clash-pattern (told dot-i (said-in text)) (off-cubes text)) (on-cubes text) 5
 
 -- 4 at the count of the on list, then at that of the off list; 7 at the first on cube at fault; 18; or accepted
 pub data AfterLines (text : List ℕ) (room : ℕ) (r : Answer) : Type 0 where
   many-on-cubes : 64 < length (on-cubes text) / 2 → r ≡ refused 4 1 3 → AfterLines text room r
   many-off-cubes : length (on-cubes text) / 2 ≤ 64 → 64 < length (off-cubes text) / 2 → r ≡ refused 4 1 4 → AfterLines text room r
-  shared-pattern : length (on-cubes text) / 2 ≤ 64 → length (off-cubes text) / 2 ≤ 64 → clash-in text .code ≡ 7 → r ≡ refused 7 1 (clash-in text .place) → AfterLines text room r
+  shared-pattern : length (on-cubes text) / 2 ≤ 64 → length (off-cubes text) / 2 ≤ 64 → clash-in text .code ≡ 7 → r ≡ refused-by 1 (clash-in text) → AfterLines text room r
   no-room : record-fault (record-of text) .code ≡ 0 → room < length (record-of text) → r ≡ refused 18 4 (length (record-of text)) → AfterLines text room r
   stored : record-fault (record-of text) .code ≡ 0 → length (record-of text) ≤ room → r ≡ accepted 3 (length (record-of text)) → AfterLines text room r
-
-clash-seven : (n : ℕ) (off : List ℕ) (P N : ℕ) → (clash-code n off P N ≡ 0 → ⊥) → clash-code n off P N ≡ 7
-unfolding clash-code
-clash-seven n off P N = cond-cases (λ c. (c ≡ 0 → ⊥) → c ≡ 7) (some-cube (cubes-share n P N) off) 7 0 (λ _. refl) (λ bad. absurd (bad refl))
-
-seven-if : (text : List ℕ) → (clash-in text .code ≡ 0 → ⊥) → clash-in text .code ≡ 7
-seven-if text = first-codes (λ (code : ℕ). (code ≡ 0 → ⊥) → code ≡ 7) (λ bad. absurd (bad refl)) _ (on-cubes text) 5 (clash-seven _ (off-cubes text))
 
 -- none of them is a line's
 pub after-not-of-lines : (text : List ℕ) (room : ℕ) (r : Answer) → AfterLines text room r → of-lines (r .code) ≡ false
 after-not-of-lines text room r (many-on-cubes h e) = ap (λ (x : Answer). of-lines (x .code)) e
 after-not-of-lines text room r (many-off-cubes g h e) = ap (λ (x : Answer). of-lines (x .code)) e
-after-not-of-lines text room r (shared-pattern g h c e) = ap (λ (x : Answer). of-lines (x .code)) e
+after-not-of-lines text room r (shared-pattern g h c e) = ap (λ (x : Answer). of-lines (x .code)) e ∙ ap of-lines c
 after-not-of-lines text room r (no-room c h e) = ap (λ (x : Answer). of-lines (x .code)) e
 after-not-of-lines text room r (stored c h e) = ap (λ (x : Answer). of-lines (x .code)) e
 
@@ -163,9 +155,9 @@ module _ (text : List ℕ) (whole : table-fault text .code ≡ 0) (room : ℕ) w
         ⊎-elim
         (λ (h : 0 < clash-in text .code).
         let bad : clash-in text .code ≡ 0 → ⊥ = λ z. omega (arith, h, z) in
-        let code = seven-if text bad in
+        let code = clash-seven (told dot-i (said-in text)) (on-cubes text) (off-cubes text) 5 bad in
         shared-pattern on-few off-few code
-        (by-record ∙ sym (by-stop 1 (clash-in text) (record-fault (record-of text)) _ _ (sym fault-is) bad refl) ∙ ap (λ (code : ℕ). refused code 1 (clash-in text .place)) code))
+        (by-record ∙ sym (by-stop 1 (clash-in text) (record-fault (record-of text)) _ _ (sym fault-is) bad refl)))
         (λ (h : clash-in text .code ≤ 0). room-last (ap (λ (f : Fault). f .code) fault-is ∙ omega (arith, h)))
         (below-or-not 0 (clash-in text .code))
 

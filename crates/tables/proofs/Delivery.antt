@@ -14,10 +14,10 @@ use Rattle.bits.proofs.Mask.{mask-at, mask-above}
 use Rattle.cubes.proofs.Lists.{Each}
 use Rattle.answers.specs.declared.Answer.{Answer}
 use Rattle.answers.specs.declared.Fault.{Fault}
-use Rattle.answers.specs.Answers.{fault, sound, is-sound, refused, fits, byte-fault, _then_, Delivered}
+use Rattle.answers.specs.Answers.{fault, fault-at, sound, is-sound, refused, refused-by, fits, byte-fault, _then_, Delivered}
 use Rattle.answers.proofs.Faults.{by-next, by-stop, then-stop, byte-good}
 use Rattle.rules.specs.Lists.{each-in}
-use Rattle.records.specs.Records.{first-fault, cube-code, clash-code, header-bytes, header-fault, record-fault}
+use Rattle.records.specs.Records.{first-fault, cube-code, clash-code, clash-pattern, no-pattern, header-bytes, header-fault, record-fault}
 use Rattle.records.proofs.Cubes.{first-each, each-first, clean-list, clash-width}
 use Rattle.records.proofs.Frame.{ends-at-header}
 use Rattle.writer.specs.Writing.{record-bytes}
@@ -34,20 +34,27 @@ use Rattle.tables.proofs.Meaning.{term-right, terms-right, cubes-even}
 
 -- ---- a fault in a list that starts further on lies further on
 
-first-moved : (code : ℕ → ℕ → ℕ) (l : List ℕ) (at d : ℕ) → first-fault code l (d + at) ≡ cond (is-sound (first-fault code l at)) sound (fault (first-fault code l at .code) (d + first-fault code l at .place))
+-- the fault d places further on
+abbrev moved : ℕ → Fault → Fault
+moved d f = fault-at (f .code) (d + f .place) (f .pattern)
+
+first-moved : (code pattern : ℕ → ℕ → ℕ) (l : List ℕ) (at d : ℕ)
+    → let f = first-fault code pattern l at in
+    first-fault code pattern l (d + at) ≡ cond (is-sound f) sound (moved d f)
 unfolding first-fault
-first-moved code [] at d = refl
-first-moved code (P ∷ []) at d = refl
-first-moved code (P ∷ N ∷ l) at d = go (eqb (code P N) 0) refl (first-moved code l (at + 2) d)
+first-moved code pattern [] at d = refl
+first-moved code pattern (P ∷ []) at d = refl
+first-moved code pattern (P ∷ N ∷ l) at d = go (eqb (code P N) 0) refl (first-moved code pattern l (at + 2) d)
   where
     further : d + at + 2 ≡ d + (at + 2)
     further = omega arith
 
     go : (t : Bool) → eqb (code P N) 0 ≡ t
-        → first-fault code l (d + (at + 2)) ≡ cond (is-sound (first-fault code l (at + 2))) sound (fault (first-fault code l (at + 2) .code) (d + first-fault code l (at + 2) .place))
-        → let f : Fault = cond t (first-fault code l (at + 2)) (fault (code P N) at) in
-        cond t (first-fault code l (d + at + 2)) (fault (code P N) (d + at)) ≡ cond (is-sound f) sound (fault (f .code) (d + f .place))
-    go true e later = ap (first-fault code l) further ∙ later
+        → let next = first-fault code pattern l (at + 2) in
+        first-fault code pattern l (d + (at + 2)) ≡ cond (is-sound next) sound (moved d next)
+        → let f : Fault = cond t next (fault-at (code P N) at (pattern P N)) in
+        cond t (first-fault code pattern l (d + at + 2)) (fault-at (code P N) (d + at) (pattern P N)) ≡ cond (is-sound f) sound (moved d f)
+    go true e later = ap (first-fault code pattern l) further ∙ later
     go false e later = simp e
 
 -- ---- what `deliver` finds
@@ -57,19 +64,19 @@ module _ (n : ℕ) (on off : List ℕ) (ready : Ready n on off) (on-bytes : (i :
   ready-sized = record { least = ready .least; most = ready .most; on-even = ready .on-even; off-even = ready .off-even; on-few = ready .on-few; off-few = ready .off-few }
 
   -- the record's fault is the clash that was looked for, five bytes further on
-  clash-is : (f : Fault) → f ≡ first-fault (clash-code 8 off) on 0 → record-fault (record-bytes n on off) ≡ cond (is-sound f) sound (fault (f .code) (5 + f .place))
+  clash-is : (f : Fault) → f ≡ first-fault (clash-code 8 off) (clash-pattern 8 off) on 0 → record-fault (record-bytes n on off) ≡ cond (is-sound f) sound (moved 5 f)
   clash-is f e =
-      clash-again n on off ready-sized (first-each (cube-code n) on 0 (ready .on-cubes)) (first-each (cube-code n) off 0 (ready .off-cubes))
-      ∙ clash-width n on off 5 (clean-list n on 0 on-bytes (ready .on-cubes)) (clean-list n off 0 off-bytes (ready .off-cubes))
-      ∙ first-moved (clash-code 8 off) on 0 5
-      ∙ ap (λ (f : Fault). cond (is-sound f) sound (fault (f .code) (5 + f .place))) (sym e)
+      clash-again n on off ready-sized (first-each (cube-code n) no-pattern on 0 (ready .on-cubes)) (first-each (cube-code n) no-pattern off 0 (ready .off-cubes))
+      ∙ clash-width n (ready .most) on off 5 (clean-list n on 0 on-bytes (ready .on-cubes)) (clean-list n off 0 off-bytes (ready .off-cubes))
+      ∙ first-moved (clash-code 8 off) (clash-pattern 8 off) on 0 5
+      ∙ ap (λ (f : Fault). cond (is-sound f) sound (moved 5 f)) (sym e)
 
-  pub clash-refused : (f : Fault) → f ≡ first-fault (clash-code 8 off) on 0 → (f .code ≡ 0 → ⊥) → (r : Answer) → r ≡ refused (f .code) 1 (5 + f .place) → (room : ℕ) → r ≡ record-reading (record-bytes n on off) room
+  pub clash-refused : (f : Fault) → f ≡ first-fault (clash-code 8 off) (clash-pattern 8 off) on 0 → (f .code ≡ 0 → ⊥) → (r : Answer) → r ≡ refused-by 1 (moved 5 f) → (room : ℕ) → r ≡ record-reading (record-bytes n on off) room
   clash-refused f e bad r is room =
-      let found : record-fault (record-bytes n on off) ≡ fault (f .code) (5 + f .place) = clash-is f e ∙ simp (ne-eqb (f .code) 0 bad) in
-      by-stop 1 (fault (f .code) (5 + f .place)) (record-fault (record-bytes n on off)) r _ (sym found) bad is
+      let found : record-fault (record-bytes n on off) ≡ moved 5 f = clash-is f e ∙ simp (ne-eqb (f .code) 0 bad) in
+      by-stop 1 (moved 5 f) (record-fault (record-bytes n on off)) r _ (sym found) bad is
 
-  pub clash-none : (f : Fault) → f ≡ first-fault (clash-code 8 off) on 0 → f .code ≡ 0 → (room : ℕ) → record-reading (record-bytes n on off) room ≡ fits 3 room (length (record-bytes n on off))
+  pub clash-none : (f : Fault) → f ≡ first-fault (clash-code 8 off) (clash-pattern 8 off) on 0 → f .code ≡ 0 → (room : ℕ) → record-reading (record-bytes n on off) room ≡ fits 3 room (length (record-bytes n on off))
   clash-none f e good room = sym (by-next 1 sound (record-fault (record-bytes n on off)) _ _ (sym (clash-is f e ∙ simp (eq-eqb (f .code) 0 good))) refl refl)
 
 -- ---- the cubes of terms have no fault of their own
@@ -171,15 +178,15 @@ ready-lists text sound-text n least most is on off on-is off-is on-few off-few =
       off-cubes = right off-char off off-is;
     }
   where
-    right : (c : ℕ) (l : List ℕ) → l ≡ cubes-with c (said-in text) → first-fault (cube-code n) l 0 .code ≡ 0
+    right : (c : ℕ) (l : List ℕ) → l ≡ cubes-with c (said-in text) → first-fault (cube-code n) no-pattern l 0 .code ≡ 0
     right c l e =
-        ap₂ (λ (m : ℕ) (l : List ℕ). first-fault (cube-code m) l 0 .code) is e
-        ∙ ap (λ (f : Fault). f .code) (each-first _ (cubes-with c (said-in text)) 0 (each-right _ c (said-in text) (terms-right text sound-text)))
+        ap₂ (λ (m : ℕ) (l : List ℕ). first-fault (cube-code m) no-pattern l 0 .code) is e
+        ∙ ap (λ (f : Fault). f .code) (each-first _ _ (cubes-with c (said-in text)) 0 (each-right _ c (said-in text) (terms-right text sound-text)))
 
 -- ---- what `read_table` makes of what was gathered
 
 module _ (text on off : List ℕ) (found : Scan) (g : Gathered text on off found) where
-  pub gathered-refused : (found .fault .code ≡ 0 → ⊥) → (r : Answer) → r ≡ refused (found .fault .code) 1 (found .fault .place) → (room : ℕ) → r ≡ table-reading text room
+  pub gathered-refused : (found .fault .code ≡ 0 → ⊥) → (r : Answer) → r ≡ refused-by 1 (found .fault) → (room : ℕ) → r ≡ table-reading text room
   unfolding table-reading
   gathered-refused bad r is room = by-stop 1 (found .fault) (table-fault text) r _ (g .found) bad is
 

@@ -4,4 +4,5 @@ pub mod Codes
 pub mod RoundTrip
 pub mod Export
 pub mod Places
+pub mod Patterns
 pub mod Settled

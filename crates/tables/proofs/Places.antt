@@ -1,6 +1,6 @@
 -- Every place that the writer of tables tells is within the longest table, so a host is told each of its answers as it is. The
 -- reader tells a line's number, one more than the lines at most, or a place in the record or its length: so a host is told each
--- of its answers as it is where the text has fewer than 2^40 - 1 bytes.
+-- of its answers as it is where the text has fewer than 2^32 - 1 bytes.
 use Prim.Native.Nat.{ℕ, suc, _+_, _^_, _≤_, _<_, max, zero-le}
 use mathlib.Core.Path.{_≡_, refl}
 use mathlib.Core.Bool.{Bool}
@@ -35,7 +35,7 @@ table-writing-within s room =
     Near : Answer → Type 0
     Near a = a .place ≤ 1437
 
-pub table-writing-place : (s : List ℕ) (room : ℕ) → table-writing s room .place < 2 ^ 40
+pub table-writing-place : (s : List ℕ) (room : ℕ) → table-writing s room .place < 2 ^ 32
 table-writing-place s room = omega (arith, table-writing-within s room)
 
 -- ---- the reader
@@ -77,5 +77,5 @@ table-reading-within text room =
     Near : Answer → Type 0
     Near a = a .place ≤ max (length text + 1) 261
 
-pub table-reading-place : (text : List ℕ) (room : ℕ) → length text + 1 < 2 ^ 40 → table-reading text room .place < 2 ^ 40
+pub table-reading-place : (text : List ℕ) (room : ℕ) → length text + 1 < 2 ^ 32 → table-reading text room .place < 2 ^ 32
 table-reading-place text room h = omega (arith, h, table-reading-within text room)

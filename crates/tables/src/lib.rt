@@ -8,6 +8,7 @@ ghost use Rattle.writer.specs.Writing.{record-bytes};
 ghost use Rattle.tables.specs.Tables.{record-of, table-reading, table-head, table-of, table-writing};
 ghost use Rattle.tables.specs.Ready.{Ready, record-reading};
 use answers::Answer;
+use answers::Fault;
 
 // Stores the record of two lists of cubes, unless an on cube shares a pattern with an off cube or there is no room.
 fn deliver(n: u8, on: &[u8], off: &[u8], out: &mut [u8]) -> Answer
@@ -16,7 +17,14 @@ fn deliver(n: u8, on: &[u8], off: &[u8], out: &mut [u8]) -> Answer
 {
     let clash = records::clash_fault(on, 0, off);
     if clash.code != 0 {
-        return answers::refused(clash.code, 1, 5 + clash.place);
+        return answers::refused_by(
+            1,
+            Fault {
+                code: clash.code,
+                place: 5 + clash.place,
+                pattern: clash.pattern,
+            },
+        );
     }
     let long = 5 + on.len() + off.len();
     if out.len() < long {
@@ -35,7 +43,7 @@ pub fn read_table(text: &[u8], out: &mut [u8]) -> Answer
     let found = rows::gather(text, &mut on, &mut off);
     let fault = found.fault;
     if fault.code != 0 {
-        return answers::refused(fault.code, 1, fault.place);
+        return answers::refused_by(1, fault);
     }
     if 64 < found.on {
         return answers::refused(4, 1, 3);
@@ -68,7 +76,7 @@ pub fn write_table(record: &[u8], out: &mut [u8]) -> Answer
 {
     let fault = records::record_fault(record);
     if fault.code != 0 {
-        return answers::refused(fault.code, 1, fault.place);
+        return answers::refused_by(1, fault);
     }
     let n = record[2];
     let terms = record[3] + record[4];

@@ -200,11 +200,11 @@ module _ (n : ℕ) (small : n ≤ 8) (w : List ℕ) (allowed : follows (straight
   below-n : (i : ℕ) → i < length w → input-of (getD w i 0) < n
   below-n = placed-input n (omega arith) w allowed
 
-  placed-byte : (i : ℕ) → i < length w → input-of (getD w i 0) < 8
+  pub placed-byte : (i : ℕ) → i < length w → input-of (getD w i 0) < 8
   placed-byte i h = le-trans (below-n i h) small
 
   -- so a cube carried over names inputs below n alone
-  landed-lt : (asks : ℕ → ℕ → ℕ → ℕ → Bool) (P N : ℕ) → landed asks w P N < 2 ^ n
+  pub landed-lt : (asks : ℕ → ℕ → ℕ → ℕ → Bool) (P N : ℕ) → landed asks w P N < 2 ^ n
   landed-lt asks P N =
       narrow-mask 8 n small (lands asks w P N)
       (λ j from.
@@ -257,17 +257,17 @@ module _ (n : ℕ) (small : n ≤ 8) (w : List ℕ) (allowed : follows (straight
 -- ---- accepted records
 
 -- each cube of an accepted record is clean; above all, it is not empty
-clean-side : (s : ℕ) (f : List ℕ) → Bytes f → record-fault f .code ≡ 0 → CleanList (inputs f) (side s f)
+pub clean-side : (s : ℕ) (f : List ℕ) → Bytes f → record-fault f .code ≡ 0 → CleanList (inputs f) (side s f)
 unfolding side
 clean-side s f bytes fine =
     let clean = all-clean f bytes (record-sound f fine .cubes) in
     elim (eqb s 0) as (λ t. CleanList (inputs f) (cond t (on-list f) (off-list f))) [ true ↦ on-each _ f clean | false ↦ off-each _ f clean ]
 
 -- some cube of f's list s holds x, and some cube of the list of g against it holds y: f and g disagree where that is so of a list
-abbrev both-hold : ℕ → List ℕ → List ℕ → ℕ → ℕ → ℕ → Bool
+abbrev pub both-hold : ℕ → List ℕ → List ℕ → ℕ → ℕ → ℕ → Bool
 both-hold q f g s x y = some-holds (side s f) x && some-holds (side (against q s) g) y
 
-disagree-is : (q : ℕ) (f g : List ℕ) (x y : ℕ) → disagree-at q f g x y ≡ both-hold q f g 0 x y || both-hold q f g 1 x y
+pub disagree-is : (q : ℕ) (f g : List ℕ) (x y : ℕ) → disagree-at q f g x y ≡ both-hold q f g 0 x y || both-hold q f g 1 x y
 unfolding disagree-at side against
 disagree-is zero f g x y = refl
 disagree-is (suc q) f g x y = simp (ne-eqb (suc q) 0 (λ e. omega (arith, e)))

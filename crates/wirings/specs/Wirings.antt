@@ -4,9 +4,10 @@
 use Prim.Native.Nat.{ℕ, zero, suc, _+_, _-_, _*_, _/_, _%_, _^_}
 use mathlib.Core.Bool.{Bool, true, false, cond, not, _&&_, _||_}
 use mathlib.Core.List.{List, [], _∷_, map, flatMap}
+use mathlib.Core.Option.{Option}
 use lib.Dec.{leb, ltb, eqb}
 use lib.ListN.{length, getD, drop}
-use Rattle.bits.specs.Bits.{bit, number, any}
+use Rattle.bits.specs.Bits.{bit, number, any, smallest}
 use Rattle.cubes.specs.Cubes.{some-holds}
 use Rattle.rules.specs.Lists.{some-in, each-in}
 use Rattle.rules.specs.Rules.{Rule, completions}
@@ -93,6 +94,10 @@ disagree-at (suc q) f g x y = is-on f x && is-on g y || is-off f x && is-off g y
 -- no pattern y of g is such
 unfoldable pub agrees : ℕ → List ℕ → List ℕ → List ℕ → Bool
 agrees q f g w = not (any (2 ^ inputs g) (λ y. disagree-at q f g (read-at w y) y))
+
+-- the smallest pattern y of g that is
+unfoldable pub disagreement : ℕ → List ℕ → List ℕ → List ℕ → Option ℕ
+disagreement q f g w = smallest (2 ^ inputs g) (λ y. disagree-at q f g (read-at w y) y)
 
 -- of a wiring with its phase
 abbrev pub agreeing : List ℕ → List ℕ → List ℕ → Bool

@@ -1,3 +1,2 @@
 pub mod Words
 pub mod Counted
-pub mod Eight

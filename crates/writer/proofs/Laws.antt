@@ -74,12 +74,12 @@ cubes-right n on off e =
     let c₁ = by-both 1 _ _ e in
     let c₂ = by-both 2 _ _ (c₁ .1) in
     let c₃ = by-both 1 _ _ (c₂ .1) in
-    record { on-cubes = first-each _ on 0 (c₁ .0); off-cubes = first-each _ off 0 (c₂ .0); apart = first-each _ on 0 (c₃ .0) }
+    record { on-cubes = first-each _ _ on 0 (c₁ .0); off-cubes = first-each _ _ off 0 (c₂ .0); apart = first-each _ _ on 0 (c₃ .0) }
 
 pub cubes-good : (n : ℕ) (on off : List ℕ) → Right n on off → cubes n on off ≡ fine
 unfolding cubes
 cubes-good n on off h =
     sym
-    (by-next 1 sound _ _ _ (sym (each-first _ on 0 (h .on-cubes))) refl
-    (by-next 2 sound _ _ _ (sym (each-first _ off 0 (h .off-cubes))) refl
-    (by-next 1 sound _ _ _ (sym (each-first _ on 0 (h .apart))) refl refl)))
+    (by-next 1 sound _ _ _ (sym (each-first _ _ on 0 (h .on-cubes))) refl
+    (by-next 2 sound _ _ _ (sym (each-first _ _ off 0 (h .off-cubes))) refl
+    (by-next 1 sound _ _ _ (sym (each-first _ _ on 0 (h .apart))) refl refl)))

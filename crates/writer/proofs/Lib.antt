@@ -1,4 +1,5 @@
 pub mod Laws
 pub mod Places
+pub mod Patterns
 pub mod RoundTrip
 pub mod Settled

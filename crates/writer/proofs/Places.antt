@@ -9,10 +9,10 @@ use lib.ListN.{length}
 use Rattle.bits.proofs.Tests.{cond-cases}
 use Rattle.answers.specs.declared.Answer.{Answer}
 use Rattle.answers.specs.declared.Fault.{Fault}
-use Rattle.answers.specs.Answers.{refused, fits, by, told, _or-else_}
+use Rattle.answers.specs.Answers.{refused-by, fits, by, told, _or-else_}
 use Rattle.answers.proofs.Faults.{chosen-elim}
 use Rattle.answers.proofs.Told.{told-fits}
-use Rattle.records.specs.Records.{first-fault, cube-code, clash-code}
+use Rattle.records.specs.Records.{first-fault, cube-code, clash-code, clash-pattern, no-pattern}
 use Rattle.records.proofs.Places.{first-place}
 use Rattle.writer.specs.Writing.{record-bytes, few, sizes, cubes, writing}
 use Rattle.writer.proofs.Laws.{Sized, sizes-sound, record-long}
@@ -33,17 +33,17 @@ sizes-near n on off =
 
 by-near : (who : ℕ) (f : Fault) (next : Answer) → f .place ≤ 261 → Near next → Near (by who f next)
 unfolding by
-by-near who f next h later = chosen-elim Near (f .code) next (refused (f .code) who (f .place)) (λ _ _. h) (λ _. later)
+by-near who f next h later = chosen-elim Near (f .code) next (refused-by who f) (λ _ _. h) (λ _. later)
 
 cubes-near : (n : ℕ) (on off : List ℕ) → Sized n on off → Near (cubes n on off)
 unfolding cubes
 cubes-near n on off s =
-    by-near 1 _ _ (within (cube-code n) on (s .on-few))
-    (by-near 2 _ _ (within (cube-code n) off (s .off-few))
-    (by-near 1 _ _ (within (clash-code n off) on (s .on-few)) (λ _. zero-le)))
+    by-near 1 _ _ (within (cube-code n) no-pattern on (s .on-few))
+    (by-near 2 _ _ (within (cube-code n) no-pattern off (s .off-few))
+    (by-near 1 _ _ (within (clash-code n off) (clash-pattern n off) on (s .on-few)) (λ _. zero-le)))
   where
-    within : (code : ℕ → ℕ → ℕ) (l : List ℕ) → length l ≤ 128 → first-fault code l 0 .place ≤ 261
-    within code l h = omega (arith, first-place code l 0)
+    within : (code pattern : ℕ → ℕ → ℕ) (l : List ℕ) → length l ≤ 128 → first-fault code pattern l 0 .place ≤ 261
+    within code pattern l h = omega (arith, first-place code pattern l 0)
 
 fits-near : (n : ℕ) (on off : List ℕ) (room : ℕ) → Sized n on off → Near (fits 3 room (length (record-bytes n on off)))
 unfolding fits

@@ -12,7 +12,7 @@ use Rattle.answers.specs.declared.Fault.{Fault}
 use Rattle.answers.specs.Answers.{accepted, fits, Delivered}
 use Rattle.answers.proofs.Faults.{or-else-next, or-else-both}
 use Rattle.answers.proofs.Stores.{fits-enough, Stands, delivered-stands}
-use Rattle.records.specs.Records.{inputs, on-count, off-count, off-at, on-list, off-list, record-fault, cubes-fault, first-fault, cube-code, clash-code, reading, with-counts}
+use Rattle.records.specs.Records.{inputs, on-count, off-count, off-at, on-list, off-list, record-fault, cubes-fault, first-fault, cube-code, clash-code, clash-pattern, no-pattern, reading, with-counts}
 use Rattle.records.proofs.Frame.{Framed, record-sound, header-good, ends-at-clash, reading-accepted}
 use Rattle.records.proofs.Cubes.{first-each, each-first}
 use Rattle.records.proofs.Meaning.{each-on, each-off}
@@ -73,7 +73,7 @@ module _ (s : List ℕ) (ok : record-fault s .code ≡ 0) where
       record { least = omega arith; most = omega arith; on-even = omega arith; off-even = omega arith; on-few = omega arith; off-few = omega arith }
 
   lists-right : Right (inputs s) (on-list s) (off-list s)
-  lists-right = record { on-cubes = each-on s ok; off-cubes = each-off s ok; apart = first-each _ _ _ (record-sound s ok .apart) }
+  lists-right = record { on-cubes = each-on s ok; off-cubes = each-off s ok; apart = first-each _ _ _ _ (record-sound s ok .apart) }
 
   -- and the writer accepts, wherever the buffer has room for the record
   pub written-again : (room : ℕ) → length s ≤ room → writing (inputs s) (on-list s) (off-list s) room ≡ accepted 3 (length s)
@@ -124,18 +124,18 @@ module _ (n : ℕ) (on off : List ℕ) (sized : Sized n on off) where
   module _ (on-cubes : Each (λ P N. cube-code n P N ≡ 0) on) (off-cubes : Each (λ P N. cube-code n P N ≡ 0) off) where
     cubes-again : cubes-fault (record-bytes n on off) .code ≡ 0
     unfolding record-bytes
-    cubes-again = ap (λ (f : Fault). f .code) (each-first (cube-code n) (on ++ off) 5 (each-join _ on off (sized .on-even) on-cubes off-cubes))
+    cubes-again = ap (λ (f : Fault). f .code) (each-first (cube-code n) no-pattern (on ++ off) 5 (each-join _ on off (sized .on-even) on-cubes off-cubes))
 
     -- so the record can have no fault but a shared pattern
-    pub clash-again : record-fault (record-bytes n on off) ≡ first-fault (clash-code n off) on 5
+    pub clash-again : record-fault (record-bytes n on off) ≡ first-fault (clash-code n off) (clash-pattern n off) on 5
     unfolding record-bytes
     clash-again =
         ends-at-clash (record-bytes n on off) (ap (λ (f : Fault). f .code) (header-good (record-bytes n on off) framed-again)) cubes-again
-        ∙ ap₂ (λ (on′ off′ : List ℕ). first-fault (clash-code n off′) on′ 5) on-again off-again
+        ∙ ap₂ (λ (on′ off′ : List ℕ). first-fault (clash-code n off′) (clash-pattern n off′) on′ 5) on-again off-again
 
   module _ (right : Right n on off) where
     sound-again : record-fault (record-bytes n on off) .code ≡ 0
-    sound-again = ap (λ (f : Fault). f .code) (clash-again (right .on-cubes) (right .off-cubes) ∙ each-first (clash-code n off) on 5 (right .apart))
+    sound-again = ap (λ (f : Fault). f .code) (clash-again (right .on-cubes) (right .off-cubes) ∙ each-first (clash-code n off) (clash-pattern n off) on 5 (right .apart))
 
     -- accepted, with the same n and counts
     pub read-again : reading (record-bytes n on off) ≡ with-counts (accepted 3 (length (record-bytes n on off))) n (length on / 2) (length off / 2)

@@ -7,7 +7,7 @@ use lib.Dec.{ltb, eqb}
 use lib.ListN.{length}
 use Rattle.answers.specs.declared.Answer.{Answer}
 use Rattle.answers.specs.Answers.{fine, refused, fits, by, _or-else_}
-use Rattle.records.specs.Records.{first-fault, cube-code, clash-code}
+use Rattle.records.specs.Records.{first-fault, cube-code, clash-code, clash-pattern, no-pattern}
 
 -- the record's bytes, from n and the two lists of cube bytes
 unfoldable pub record-bytes : ℕ → List ℕ → List ℕ → List ℕ
@@ -29,9 +29,9 @@ sizes n on off =
 -- each cube of either list, then the on cubes against the off cubes
 unfoldable pub cubes : ℕ → List ℕ → List ℕ → Answer
 cubes n on off =
-    by 1 (first-fault (cube-code n) on 0)
-    (by 2 (first-fault (cube-code n) off 0)
-    (by 1 (first-fault (clash-code n off) on 0)
+    by 1 (first-fault (cube-code n) no-pattern on 0)
+    (by 2 (first-fault (cube-code n) no-pattern off 0)
+    (by 1 (first-fault (clash-code n off) (clash-pattern n off) on 0)
     fine))
 
 -- and last, room for the whole record

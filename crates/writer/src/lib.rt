@@ -39,15 +39,15 @@ fn check_cubes(n: u8, on: &[u8], off: &[u8]) -> Answer
 {
     let in_on = records::cubes_fault(on, 0, n);
     if in_on.code != 0 {
-        return answers::refused(in_on.code, 1, in_on.place);
+        return answers::refused_by(1, in_on);
     }
     let in_off = records::cubes_fault(off, 0, n);
     if in_off.code != 0 {
-        return answers::refused(in_off.code, 2, in_off.place);
+        return answers::refused_by(2, in_off);
     }
     let clash = records::clash_fault(on, 0, off);
     if clash.code != 0 {
-        return answers::refused(clash.code, 1, clash.place);
+        return answers::refused_by(1, clash);
     }
     answers::accepted(3, 0)
 }

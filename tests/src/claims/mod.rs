@@ -1,17 +1,19 @@
 //! The checker, held against the reference.
 //!
 //! A `Trial` has the call under test. Its methods make one call each and compare
-//! all four numbers with what the reference says; of a claim that was made to be
+//! all five numbers with what the reference says; of a claim that was made to be
 //! valid it is known without the reference. `sweeps` has the inputs, `trees` the
 //! refusal claims among them.
 
 pub mod sweeps;
 pub mod trees;
 
+use crate::patterns::others_of_wiring;
 use crate::records::Outcome;
-use crate::reference::answer::{Answer, MATCH, NO_MATCH, OF_F, OF_G};
+use crate::reference::answer::{Answer, MATCH, NO_MATCH, OF_CLAIM, OF_F, OF_G};
 use crate::reference::checker::{check, check_in, Checked, Node, NodeByte};
-use crate::reference::claim::MATCH_MARK;
+use crate::reference::claim::{match_claim, MATCH_MARK};
+use crate::reference::wiring::Wiring;
 use crate::show::{self, hex, hex_near};
 use crate::tally::Tally;
 use crate::wirings::Given;
@@ -32,6 +34,12 @@ pub const BEYOND: [&str; 3] =
     ["check, 15 at a node, by depth", "check, 15 at u, by depth", "check, 15 at v, by depth"];
 pub const SPLIT_AT_N: &str = "check, 16 by depth";
 pub const NOT_DEAD: &str = "check, 17 by depth";
+/// the patterns of 7 and of 14;
+pub const CLASH_PATTERNS: [&str; 2] = ["check, 7 in f by pattern", "check, 7 in g by pattern"];
+pub const PATTERNS: [&str; 2] =
+    ["check, 14 with q = 0 by pattern", "check, 14 with q = 1 by pattern"];
+/// where it was 14, how often each wrong pattern is another, by its index in `OF_WIRING`;
+pub const OTHER_PATTERN: &str = "check, 14, a wrong pattern is another, by mistake";
 /// and what was accepted, by n.
 pub const MATCHES: &str = "check, match accepted, by n";
 pub const CLOSED: &str = "check, refusal without a split accepted, by n";
@@ -76,6 +84,24 @@ impl Trial {
         self.claim(given, claim)
     }
 
+    /// A match claim: where it does not agree, the wrong patterns are counted too.
+    pub fn wiring(&mut self, given: &Given, wiring: &Wiring) -> Outcome {
+        self.claim(given, &match_claim(wiring))?;
+        if let Some(right) = given.tables.disagreements(wiring.q, &wiring.inputs).next() {
+            let others = others_of_wiring(given, wiring, right);
+            others.for_each(|mistake| self.tally.add(OTHER_PATTERN, mistake));
+        }
+        Ok(())
+    }
+
+    /// A wiring that disagrees at this pattern of g and at none that is smaller, by the way
+    /// it was made.
+    pub fn disagrees(&mut self, given: &Given, wiring: &Wiring, pattern: usize) -> Outcome {
+        let answer = Answer::refused(14, OF_CLAIM, 0).naming(pattern);
+        self.compare(&given.f, &given.g, &match_claim(wiring), answer)?;
+        self.wiring(given, wiring)
+    }
+
     fn compare(&self, f: &[u8], g: &[u8], claim: &[u8], want: Answer) -> Outcome {
         let got = (self.call)(f, g, claim);
         if got == want.packed() {
@@ -92,8 +118,13 @@ impl Trial {
     }
 
     fn count(&mut self, claim: &[u8], Checked { answer, node }: Checked) {
-        let Answer { code, kind, record, place } = answer;
+        let Answer { code, kind, record, place, pattern } = answer;
         self.tally.add(CHECK, code);
+        match code {
+            7 => self.tally.add(CLASH_PATTERNS[(record == OF_G) as usize], pattern),
+            14 => self.tally.add(PATTERNS[claim[3] as usize], pattern),
+            _ => {}
+        }
         match (record, code) {
             (0, _) => {
                 let n = claim[2] as u64;

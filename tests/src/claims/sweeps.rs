@@ -3,27 +3,34 @@
 use super::trees::{closings, forged, refusal, refused_pair, trees, widened, Shape, SHAPES};
 use super::Trial;
 use crate::cases::{CLAIMS, CONJ, CONST, DISJ, NAMED, ODD, OPEN, WIRE};
+use crate::matches::pairs::every_function;
+use crate::patterns::{any_lists, clash_at, clashing, every_table, flipped_at};
 use crate::random::{any_function, any_size, function_of, spoiled, Random};
 use crate::records::sweeps::every_string;
 use crate::records::Outcome;
 use crate::reference::claim::{match_claim, refusal_claim, MATCH_MARK, REFUSAL_MARK, SPLIT};
+use crate::reference::pattern::{patterns, INPUTS};
 use crate::reference::record::record;
 use crate::reference::two::{two, Two};
 use crate::reference::wiring::wirings;
-use crate::wirings::pairs::{any_pair, any_wiring, neighbour, Made};
+use crate::wirings::pairs::{any_pair, any_wiring, copied, neighbour, Made};
 use crate::wirings::Given;
 
 /// A sweep makes its inputs and lets the trial compare them.
 pub type Sweep = fn(&mut Trial) -> Outcome;
 
 /// All sweeps, the longest first.
-pub const ALL: [Sweep; 11] = [
+pub const ALL: [Sweep; 15] = [
     large_trees,
     damaged_trees,
     small_trees,
     other_closings,
     forged_claims,
+    wrong_wirings,
+    every_wiring,
     bad_records,
+    clashing_records,
+    known_patterns,
     match_claims,
     random_claims,
     damaged_match_claims,
@@ -119,6 +126,86 @@ pub fn damaged_match_claims(trial: &mut Trial) -> Outcome {
                 }
                 trial.claim(&given, &damaged)?;
             }
+        }
+    }
+    Ok(())
+}
+
+// ---- Claims that do not agree, and where ----
+
+/// All functions of 1 and of 2 inputs, as single patterns and as few cubes: each to each,
+/// by all wirings.
+pub fn every_wiring(trial: &mut Trial) -> Outcome {
+    let sets = [every_table(1), every_function(1, 2), every_table(2), every_function(2, 1)];
+    for functions in sets {
+        let wirings = wirings(functions[0].n);
+        for f in &functions {
+            for g in &functions {
+                let given = Given::new(Two { f: f.clone(), g: g.clone() });
+                for wiring in &wirings {
+                    trial.wiring(&given, wiring)?;
+                }
+            }
+        }
+    }
+    Ok(())
+}
+
+/// A function and its copy under a wiring, with one or two things wrong in the wiring: two
+/// inputs changed places, an inversion, q.
+pub fn wrong_wirings(trial: &mut Trial) -> Outcome {
+    let mut random = Random::new(311);
+    for n in 1..=INPUTS {
+        for round in 0..120 {
+            let f = any_lists(&mut random, n);
+            let wiring = any_wiring(&mut random, n);
+            let g = copied(&mut random, &f, &wiring, round % 2);
+            let given = Given::new(Two { f, g });
+            for _ in 0..3 {
+                let wrong = neighbour(&mut random, &wiring);
+                trial.wiring(&given, &wrong)?;
+                trial.wiring(&given, &neighbour(&mut random, &wrong))?;
+            }
+        }
+    }
+    Ok(())
+}
+
+/// Wirings that fit but at known patterns: each in turn is the smallest of them.
+pub fn known_patterns(trial: &mut Trial) -> Outcome {
+    let mut random = Random::new(312);
+    for n in 1..=INPUTS {
+        for pattern in patterns(n) {
+            for (q, others) in
+                [(false, 0), (false, 2), (false, 40), (true, 0), (true, 2), (true, 40)]
+            {
+                let larger = (1 << n) - pattern;
+                let mut at = vec![pattern];
+                at.extend((0..others).map(|_| pattern + random.below(larger)));
+                at.sort();
+                at.dedup();
+                let (two, wiring) = flipped_at(&mut random, n, q, &at);
+                trial.disagrees(&Given::new(two), &wiring, pattern)?;
+            }
+        }
+    }
+    Ok(())
+}
+
+/// Functions whose lists meet, in the place of f, of g and of both.
+pub fn clashing_records(trial: &mut Trial) -> Outcome {
+    let mut random = Random::new(313);
+    for n in 1..=INPUTS {
+        for pattern in patterns(n) {
+            let claim = match_claim(&any_wiring(&mut random, n));
+            let right = record(&any_lists(&mut random, n));
+            let bad = record(&clashing(&mut random, n));
+            let known = record(&clash_at(&mut random, n, pattern).0);
+            for [f, g] in [[&bad, &right], [&right, &bad], [&known, &right], [&right, &known]] {
+                trial.bytes(f, g, &claim)?;
+            }
+            trial.bytes(&bad, &known, &claim)?;
+            trial.bytes(&known, &bad, &[])?;
         }
     }
     Ok(())

@@ -28,6 +28,8 @@ use crate::wirings::pairs::{straight, the_wrong_way_round};
 /// The lines of the tally: all answers by code;
 pub const FIND: &str = "match";
 pub const OF_F_OR_G: [&str; 2] = ["match, f refused", "match, g refused"];
+/// the patterns of 7;
+pub const CLASH_PATTERNS: [&str; 2] = ["match, 7 in f by pattern", "match, 7 in g by pattern"];
 /// buffers for valid functions, by the kind of the claim;
 pub const EMPTY: &str = "match, buffer empty, by kind";
 pub const SHORT: &str = "match, buffer too short, by kind";
@@ -215,6 +217,9 @@ impl Trial {
             ));
         }
         self.tally.add(FIND, want.code);
+        if want.code == 7 {
+            self.tally.add(CLASH_PATTERNS[(want.record == OF_G) as usize], want.pattern);
+        }
         match want.record {
             OF_F => self.tally.add(OF_F_OR_G[0], want.code),
             OF_G => self.tally.add(OF_F_OR_G[1], want.code),

@@ -4,13 +4,14 @@ use super::pairs::{both_ends, ends_within, every_function, last_input, many, sev
 use super::Trial;
 use crate::cases::{EXAMPLE_2_1, EXAMPLE_3_2, NAMED};
 use crate::claims::trees::{refused_pair, widened};
+use crate::patterns::{any_lists, clash_at, clashing};
 use crate::random::{any_function, any_size, few, from_points, full_function, function_of};
 use crate::random::{spoiled, Random};
 use crate::records::Outcome;
 use crate::reference::dead::TRIED;
 use crate::reference::matcher::first_on_patterns;
 use crate::reference::pair::Pair;
-use crate::reference::pattern::{Cube, Function, INPUTS};
+use crate::reference::pattern::{patterns, Cube, Function, INPUTS};
 use crate::reference::record::{record, MOST_CUBES};
 use crate::reference::two::{two, Two};
 use crate::reference::wiring::Wiring;
@@ -20,7 +21,7 @@ use crate::wirings::pairs::{any_pair, any_wiring, copied, one_dead_pair, straigh
 pub type Sweep = fn(&mut Trial) -> Outcome;
 
 /// All sweeps, the longest first.
-pub const ALL: [Sweep; 14] = [
+pub const ALL: [Sweep; 15] = [
     longer_searches,
     other_pairs,
     fitting_pairs,
@@ -30,6 +31,7 @@ pub const ALL: [Sweep; 14] = [
     known_wirings,
     every_room,
     bad_records,
+    clashing_records,
     small_functions,
     special_functions,
     full_lists,
@@ -334,6 +336,22 @@ pub fn bad_records(trial: &mut Trial) -> Outcome {
             }
             for room in [0, random.below(16), 300] {
                 trial.bytes(f, g, room)?;
+            }
+        }
+    }
+    Ok(())
+}
+
+/// Functions whose lists meet, in the place of f, of g and of both.
+pub fn clashing_records(trial: &mut Trial) -> Outcome {
+    let mut random = Random::new(413);
+    for n in 1..=INPUTS {
+        for pattern in patterns(n) {
+            let right = record(&any_lists(&mut random, n));
+            let bad = record(&clashing(&mut random, n));
+            let known = record(&clash_at(&mut random, n, pattern).0);
+            for [f, g] in [[&bad, &right], [&right, &bad], [&known, &bad], [&right, &known]] {
+                trial.bytes(f, g, random.pick(&[0, 12, 300]))?;
             }
         }
     }

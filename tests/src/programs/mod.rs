@@ -47,12 +47,14 @@ fn started(file: PathBuf) -> Program {
 }
 
 /// The lines of the tally for a program: all answers by code, those that refuse a
-/// record by code, and the accepted ones by kind.
+/// record by code, the accepted ones by kind, and codes 7 and 14 by pattern.
 pub struct Lines {
     pub program: &'static str,
     pub of_f: &'static str,
     pub of_g: &'static str,
     pub accepted: &'static str,
+    pub clashes: &'static str,
+    pub disagreements: &'static str,
 }
 
 pub const MATCH_PAIR: Lines = Lines {
@@ -60,6 +62,8 @@ pub const MATCH_PAIR: Lines = Lines {
     of_f: "match_pair, f refused",
     of_g: "match_pair, g refused",
     accepted: "match_pair, accepted, by kind",
+    clashes: "match_pair, 7 by pattern",
+    disagreements: "match_pair, 14 by pattern",
 };
 
 pub const CHECK_CLAIM: Lines = Lines {
@@ -67,6 +71,8 @@ pub const CHECK_CLAIM: Lines = Lines {
     of_f: "check_claim, f refused",
     of_g: "check_claim, g refused",
     accepted: "check_claim, accepted, by kind",
+    clashes: "check_claim, 7 by pattern",
+    disagreements: "check_claim, 14 by pattern",
 };
 
 /// Claims that are too long have no code.
@@ -92,6 +98,11 @@ impl Trial {
     pub fn portions(&mut self, input: &[u8], portions: &Portions) -> Outcome {
         let of_match = (self.programs.match_pair)(input, portions);
         self.compare(MATCH_PAIR, input, portions, match_pair(input), of_match)?;
+        self.check(input, portions)
+    }
+
+    /// The check program alone: of many inputs the other one would search for long.
+    pub fn check(&mut self, input: &[u8], portions: &Portions) -> Outcome {
         let of_check = (self.programs.check_claim)(input, portions);
         self.compare(CHECK_CLAIM, input, portions, check_claim(input), of_check)
     }
@@ -119,6 +130,11 @@ impl Trial {
             return Ok(());
         };
         self.tally.add(lines.program, answer.code);
+        match answer.code {
+            7 => self.tally.add(lines.clashes, answer.pattern),
+            14 => self.tally.add(lines.disagreements, answer.pattern),
+            _ => {}
+        }
         match answer.record {
             0 => self.tally.add(lines.accepted, answer.kind),
             OF_F => self.tally.add(lines.of_f, answer.code),

@@ -6,10 +6,12 @@ use crate::cases::{CLAIMS, CONJ, CONJ_ODD_CLAIM, CONST, DISJ, MATCHINGS, NAMED, 
 use crate::claims::trees::{forged, refusal, refusal_of_length, refused_pair};
 use crate::claims::trees::{split_everywhere, DEAD_AT_ONCE, SHAPES};
 use crate::matches::pairs::{both_ends, last_input};
+use crate::patterns::{clash_at, flipped_at};
 use crate::random::{few, full_function, function_of, spoiled, Random};
 use crate::records::Outcome;
 use crate::reference::claim::{match_claim, MATCH_MARK, REFUSAL_MARK, SPLIT};
 use crate::reference::dead::TRIED;
+use crate::reference::pattern::INPUTS;
 use crate::reference::programs::LONGEST_CHECKED;
 use crate::reference::record::{record, MARK};
 use crate::reference::two::Two;
@@ -19,12 +21,13 @@ use crate::wirings::pairs::{any_pair, any_wiring, Made};
 pub type Sweep = fn(&mut Trial) -> Outcome;
 
 /// All sweeps, the longest first.
-pub const ALL: [Sweep; 13] = [
+pub const ALL: [Sweep; 14] = [
     portions,
     long_portions,
     damaged_claims,
     bad_records,
     random_claims,
+    patterns,
     rests,
     cut_inputs,
     short_inputs,
@@ -358,6 +361,30 @@ pub fn bad_records(trial: &mut Trial) -> Outcome {
         ];
         for [f, g] in pairs {
             trial.input(&[f, g, &claim].concat())?;
+        }
+    }
+    Ok(())
+}
+
+/// The patterns that the sweep below has of 8 inputs: from the first to the last.
+pub fn some_patterns() -> impl Iterator<Item = usize> {
+    (0..=255).step_by(17)
+}
+
+/// Lists that meet in f and in g, and wirings that fail, at known patterns.
+pub fn patterns(trial: &mut Trial) -> Outcome {
+    let mut random = Random::new(511);
+    for n in 1..=INPUTS {
+        for pattern in some_patterns().filter(|pattern| pattern >> n == 0) {
+            let bad = record(&clash_at(&mut random, n, pattern).0);
+            // There, and often at larger ones.
+            let at: Vec<usize> = (pattern..1 << n).take(1 + random.below(20)).collect();
+            let q = random.flip();
+            let (two, wiring) = flipped_at(&mut random, n, q, &at);
+            let (f, claim) = (record(&two.f), match_claim(&wiring));
+            trial.input(&[&bad, &f, &claim[..]].concat())?;
+            trial.input(&[&f, &bad, &claim[..]].concat())?;
+            trial.check(&input(&two, &claim), &Portions::ONE)?;
         }
     }
     Ok(())

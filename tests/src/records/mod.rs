@@ -8,12 +8,14 @@ pub mod sweeps;
 
 use crate::calls::RecordCalls;
 use crate::lent::{byte, inside, lent, word};
+use crate::patterns::others_of_clash;
 use crate::reference::answer::Answer;
 use crate::reference::fault::{self, Owner};
+use crate::reference::pattern::{Clash, Function};
 use crate::reference::record;
 use crate::reference::summary;
 use crate::reference::writer;
-use crate::show::{self, hex};
+use crate::show::{self, hex, hex_near};
 use crate::tally::Tally;
 
 /// The names of the calls in the tally. The bytes at fault have three lines, by
@@ -24,6 +26,11 @@ pub const WRITE: &str = "write";
 pub const FAULT_OF_F: &str = "fault, part of f";
 pub const FAULT_OF_G: &str = "fault, part of g";
 pub const FAULT_EMPTY: &str = "fault, empty";
+/// The patterns that 7 carries;
+pub const PATTERNS: [&str; 3] =
+    ["read, 7 by pattern", "summary, 7 by pattern", "write, 7 by pattern"];
+/// where it was 7, how often each wrong pattern is another, by its index in `OF_CLASH`.
+pub const OTHER_PATTERN: &str = "7, a wrong pattern is another, by mistake";
 
 /// What differed, if anything did.
 pub type Outcome = Result<(), String>;
@@ -48,7 +55,7 @@ impl Trial {
         let want = record::read(record, 1);
         let numbers = [want.n, want.a, want.b];
         compare_numbers(READ, self.calls.read, record, slots, want.answer, numbers)?;
-        self.tally.add(READ, want.answer.code);
+        self.count(READ, PATTERNS[0], want.answer);
         Ok(())
     }
 
@@ -62,7 +69,7 @@ impl Trial {
         let want = summary::summary(record);
         let numbers = [want.on, want.off, want.in_use];
         compare_numbers(SUMMARY, self.calls.summary, record, slots, want.answer, numbers)?;
-        self.tally.add(SUMMARY, want.answer.code);
+        self.count(SUMMARY, PATTERNS[1], want.answer);
         Ok(())
     }
 
@@ -76,16 +83,35 @@ impl Trial {
             return Err(format!(
                 "write, n {n}, room {room}\n  on   {}\n  off  {}\n  want {}\n  got  {}\n  \
                  buffer wanted {}\n  buffer found  {}",
-                hex(on),
-                hex(off),
+                hex_near(on, 0),
+                hex_near(off, 0),
                 show::answer(want),
                 show::answer(Answer::unpacked(got)),
                 hex(&expected),
                 hex(&buffer),
             ));
         }
-        self.tally.add(WRITE, want.code);
+        self.count(WRITE, PATTERNS[2], want);
         Ok(())
+    }
+
+    /// A function whose lists meet: all calls, in a buffer that is long enough or not.
+    pub fn clash(&mut self, f: &Function, clash: Clash) -> Outcome {
+        let bytes = record::record(f);
+        self.read(&bytes)?;
+        self.summary(&bytes)?;
+        for room in [0, bytes.len()] {
+            self.write(f.n as u8, &record::bytes(&f.on), &record::bytes(&f.off), room)?;
+        }
+        others_of_clash(f, clash).for_each(|mistake| self.tally.add(OTHER_PATTERN, mistake));
+        Ok(())
+    }
+
+    fn count(&mut self, call: &'static str, patterns: &'static str, want: Answer) {
+        self.tally.add(call, want.code);
+        if want.code == 7 {
+            self.tally.add(patterns, want.pattern);
+        }
     }
 
     /// The bytes at fault, with a buffer of so many bytes.

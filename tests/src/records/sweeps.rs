@@ -2,8 +2,9 @@
 
 use super::{Outcome, Trial};
 use crate::cases::NAMED;
+use crate::patterns::{clash_at, clashing};
 use crate::random::{any_function, full_function, spoiled, Random};
-use crate::reference::pattern::Function;
+use crate::reference::pattern::{every_cube, patterns, Cube, Function, INPUTS};
 use crate::reference::record::{bytes, record, CUBES, MARK};
 use crate::show::hex;
 
@@ -11,16 +12,19 @@ use crate::show::hex;
 pub type Sweep = fn(&mut Trial) -> Outcome;
 
 /// All sweeps, the longest first.
-pub const ALL: [Sweep; 9] = [
+pub const ALL: [Sweep; 12] = [
     damaged_full_records,
     damaged_records,
     short_records,
     marked_records,
     small_functions,
     spoiled_records,
+    clashes,
+    small_clashes,
     pairs_and_slices,
     small_lists,
     lists_of_records,
+    long_lists,
 ];
 
 // ---- All short inputs ----
@@ -203,6 +207,50 @@ fn spoiled_record(random: &mut Random) -> Vec<u8> {
     spoiled(random, f)
 }
 
+// ---- Lists that meet ----
+
+/// Functions whose lists meet, in many ways and at every pattern.
+pub fn clashes(trial: &mut Trial) -> Outcome {
+    let mut random = Random::new(106);
+    for n in 1..=INPUTS {
+        for _ in 0..300 {
+            let f = clashing(&mut random, n);
+            let clash = f.first_clash().expect("made so");
+            trial.clash(&f, clash)?;
+        }
+        for pattern in patterns(n) {
+            for _ in 0..4 {
+                let (f, clash) = clash_at(&mut random, n, pattern);
+                trial.clash(&f, clash)?;
+            }
+        }
+    }
+    Ok(())
+}
+
+/// All lists of up to 4 right cubes of 1 input and up to 3 of 2 inputs that meet.
+pub fn small_clashes(trial: &mut Trial) -> Outcome {
+    for (n, most) in [(1, 4), (2, 3)] {
+        let mut lists: Vec<Vec<Cube>> = vec![vec![]];
+        for _ in 0..most {
+            let longer = |list: &Vec<Cube>| {
+                let list = list.clone();
+                every_cube(n).into_iter().map(move |cube| [&list[..], &[cube]].concat())
+            };
+            lists = lists.iter().flat_map(longer).collect();
+            for list in &lists {
+                for a in 0..=list.len() {
+                    let f = Function { n, on: list[..a].to_vec(), off: list[a..].to_vec() };
+                    if let Some(clash) = f.first_clash() {
+                        trial.clash(&f, clash)?;
+                    }
+                }
+            }
+        }
+    }
+    Ok(())
+}
+
 // ---- Pairs, and lent slices of every length ----
 
 /// A few records of every sort: all pairs of them for the bytes at fault, and
@@ -275,6 +323,17 @@ pub fn lists_of_records(trial: &mut Trial) -> Outcome {
         trial.write(n, &[0x01, 0x02], &[0x02, 0x01], 9)?;
         trial.write(n, &[0x80, 0x00], &[], 6)?;
         trial.write(n, &[0xFF], &[0xFF, 0xFF, 0xFF], 0)?;
+    }
+    Ok(())
+}
+
+/// Lists whose length is about as large as the answer's place can tell. They are never
+/// read, so that the system gives no memory for them.
+pub fn long_lists(trial: &mut Trial) -> Outcome {
+    let longer = vec![0; (1 << 32) + 1];
+    for length in [(1 << 32) - 3, (1 << 32) - 1, 1 << 32, (1 << 32) + 1] {
+        trial.write(1, &longer[..length], &[], 9)?;
+        trial.write(1, &[1, 0], &longer[..length], 9)?;
     }
     Ok(())
 }

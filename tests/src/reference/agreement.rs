@@ -41,18 +41,27 @@ impl Tables {
         Tables { f: Table::of(&two.f), g: Table::of(&two.g) }
     }
 
-    /// Whether a whole wiring agrees under q.
-    pub fn agree(&self, q: bool, inputs: &Partial) -> bool {
+    /// The patterns of g at which the functions disagree under q and a whole wiring,
+    /// upward.
+    pub fn disagreements<'a>(
+        &'a self,
+        q: bool,
+        inputs: &'a Partial,
+    ) -> impl Iterator<Item = usize> + 'a {
         let (f, g) = (&self.f, &self.g);
-        patterns(inputs.n).all(|y| {
+        patterns(inputs.n).filter(move |&y| {
             let x = read_at(inputs, y);
-            let against = if q {
+            if q {
                 f.on[x] && g.on[y] || f.off[x] && g.off[y]
             } else {
                 f.on[x] && g.off[y] || f.off[x] && g.on[y]
-            };
-            !against
+            }
         })
+    }
+
+    /// Whether a whole wiring agrees under q.
+    pub fn agree(&self, q: bool, inputs: &Partial) -> bool {
+        self.disagreements(q, inputs).next().is_none()
     }
 }
 
@@ -90,6 +99,26 @@ mod tests {
         assert_eq!(agreeing(OPEN, WIRE)[0], (0, vec![0x00]));
         assert!(agreeing(OPEN, WIRE).contains(&(0, vec![0x10])));
         assert_eq!(agreeing(WIRE, WIRE), [(0, vec![0x00]), (1, vec![0x10])]);
+    }
+
+    /// By hand, from where Conj and Disj are on and off.
+    #[test]
+    fn where_conj_and_disj_disagree() {
+        let two = two(CONJ, DISJ).expect("two cases of 01");
+        let tables = Tables::of(&two);
+        let at = |q, bytes: [u8; 2]| -> Vec<usize> {
+            let inputs = Partial::from_bytes(&bytes, 2).expect("a wiring");
+            tables.disagreements(q, &inputs).collect()
+        };
+        // Straight, Conj is off at 0, 1, 2 and Disj on at 1, 2, 3.
+        assert_eq!(at(false, [0x00, 0x01]), [1, 2]);
+        assert_eq!(at(true, [0x00, 0x01]), [0, 3]);
+        // Both inverted, Conj is read at 3 - y, and is on at y = 0 alone.
+        assert_eq!(at(false, [0x10, 0x11]), [0, 1, 2, 3]);
+        assert_eq!(at(true, [0x10, 0x11]), []);
+        // Input 0 of Conj is input 1 inverted: it is on at y = 1 alone.
+        assert_eq!(at(false, [0x11, 0x00]), [2, 3]);
+        assert_eq!(at(true, [0x11, 0x00]), [0, 1]);
     }
 
     /// Examples 2.1 and 3.3 of the paper. In 3.3 inputs are permuted alone, and then

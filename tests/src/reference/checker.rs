@@ -108,10 +108,8 @@ fn match_claim(two: &Two, claim: &[u8]) -> Result<(), Answer> {
         }
         inputs = inputs.with(choice);
     }
-    if !Tables::of(two).agree(q, &inputs) {
-        return Err(refused(14, 0));
-    }
-    Ok(())
+    let first = Tables::of(two).disagreements(q, &inputs).next();
+    first.map_or(Ok(()), |pattern| Err(refused(14, 0).naming(pattern)))
 }
 
 /// The rest of a refusal claim: a tree for q = 0, a tree for q = 1, nothing more.

@@ -62,14 +62,28 @@ pub fn every_cube(n: usize) -> Vec<Cube> {
     cubes.filter(|cube| !(0..n).any(|input| cube.names_twice(input))).collect()
 }
 
-/// Whether two cubes share a pattern: all 256 are tried.
+/// The smallest pattern that two cubes share: all 256 are tried.
+pub fn smallest_shared(one: Cube, other: Cube) -> Option<usize> {
+    patterns(INPUTS).find(|&pattern| one.holds(pattern) && other.holds(pattern))
+}
+
+/// Whether two cubes share a pattern.
 pub fn share(one: Cube, other: Cube) -> bool {
-    patterns(INPUTS).any(|pattern| one.holds(pattern) && other.holds(pattern))
+    smallest_shared(one, other).is_some()
 }
 
 /// For each pattern of n inputs, whether some cube of the list holds it.
 pub fn held(cubes: &[Cube], n: usize) -> Vec<bool> {
     patterns(n).map(|pattern| cubes.iter().any(|cube| cube.holds(pattern))).collect()
+}
+
+/// What is told of a function whose lists meet.
+#[derive(Clone, Copy, Debug, PartialEq, Eq)]
+pub struct Clash {
+    /// The first on cube that shares a pattern with any off cube, by its index.
+    pub at: usize,
+    /// The smallest pattern that this cube shares with any off cube.
+    pub pattern: usize,
 }
 
 /// A function of n inputs. Either list may be empty; both may be.
@@ -98,13 +112,17 @@ impl Function {
         self.on.iter().chain(&self.off).copied()
     }
 
-    /// The first on cube that shares a pattern with any off cube.
+    /// The first clash.
     ///
-    /// Asking whether the cube holds a pattern that is off is the same as asking
-    /// `share` of every off cube in turn, and much quicker. A test below says so.
-    pub fn first_clash(&self) -> Option<usize> {
+    /// Asking for the smallest pattern of an on cube that is off is the same as asking
+    /// `smallest_shared` of every off cube in turn, and much quicker. A test below says so.
+    pub fn first_clash(&self) -> Option<Clash> {
         let off = held(&self.off, self.n);
-        self.on.iter().position(|cube| patterns(self.n).any(|at| off[at] && cube.holds(at)))
+        self.on.iter().enumerate().find_map(|(at, cube)| {
+            let mut shared =
+                patterns(self.n).filter(|&pattern| off[pattern] && cube.holds(pattern));
+            shared.next().map(|pattern| Clash { at, pattern })
+        })
     }
 }
 
@@ -112,6 +130,7 @@ impl Function {
 mod tests {
     use super::*;
     use crate::random::{any_function, clash, Random};
+    use std::collections::BTreeSet;
 
     #[test]
     fn a_cube_without_literals_holds_all_patterns() {
@@ -148,6 +167,16 @@ mod tests {
     }
 
     #[test]
+    fn the_smallest_shared_pattern_has_all_ones_that_are_asked_and_no_others() {
+        // Inputs 0 and 1 must be 1, input 2 must be 0; input 3 may be either.
+        let (one, other) = (Cube { p: 0b0001, n: 0b0100 }, Cube { p: 0b0010, n: 0 });
+        assert_eq!(smallest_shared(one, other), Some(0b0011));
+        assert_eq!(smallest_shared(Cube { p: 0x80, n: 0 }, Cube::ALL), Some(0x80));
+        assert_eq!(smallest_shared(Cube::ALL, Cube { p: 0, n: 0xFF }), Some(0));
+        assert_eq!(smallest_shared(Cube { p: 1, n: 0 }, Cube { p: 0, n: 1 }), None);
+    }
+
+    #[test]
     fn on_off_and_open() {
         let f = Function { n: 2, on: vec![Cube { p: 3, n: 0 }], off: vec![Cube { p: 0, n: 1 }] };
         assert!(f.is_on(3) && !f.is_off(3) && !f.is_open(3));
@@ -158,14 +187,18 @@ mod tests {
     #[test]
     fn the_first_clash_is_the_one_found_pair_by_pair() {
         let mut random = Random::new(1);
-        let mut clashes = 0;
+        let mut patterns = BTreeSet::new();
         for _ in 0..300 {
             let mut f = any_function(&mut random);
             clash(&mut random, &mut f);
-            let by_pairs = f.on.iter().position(|&on| f.off.iter().any(|&off| share(on, off)));
+            let first = f.on.iter().position(|&on| f.off.iter().any(|&off| share(on, off)));
+            let by_pairs = first.map(|at| {
+                let shared = f.off.iter().filter_map(|&off| smallest_shared(f.on[at], off));
+                Clash { at, pattern: shared.min().expect("it shares one") }
+            });
             assert_eq!(f.first_clash(), by_pairs, "{f:?}");
-            clashes += by_pairs.is_some() as usize;
+            patterns.extend(by_pairs.map(|clash| clash.pattern));
         }
-        assert!(clashes > 50, "only {clashes} clashes");
+        assert!(patterns.len() > 20, "only {patterns:?}");
     }
 }

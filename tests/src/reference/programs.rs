@@ -37,7 +37,7 @@ pub fn end(bytes: &[u8]) -> usize {
 /// What a program has to say.
 #[derive(Clone, Debug, PartialEq, Eq)]
 pub enum Reply {
-    /// The four numbers, and the claim where one is shown.
+    /// The five numbers, and the claim where one is shown.
     Told(Answer, Option<Vec<u8>>),
     TooLong,
 }
@@ -53,10 +53,10 @@ impl Reply {
     }
 }
 
-/// Code, kind, record and place in decimal with single blanks.
+/// Code, kind, record, place and pattern in decimal with single blanks.
 pub fn numbers(answer: Answer) -> String {
-    let Answer { code, kind, record, place } = answer;
-    format!("{code} {kind} {record} {place}")
+    let Answer { code, kind, record, place, pattern } = answer;
+    format!("{code} {kind} {record} {place} {pattern}")
 }
 
 /// Capital hex with single blanks.

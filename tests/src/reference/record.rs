@@ -1,7 +1,7 @@
 //! Reading a function record.
 
 use super::answer::{Answer, ALL_ELSE};
-use super::pattern::{Cube, Function, INPUTS};
+use super::pattern::{Clash, Cube, Function, INPUTS};
 
 pub const MARK: [u8; 2] = [0x46, 0x4E];
 pub const MOST_CUBES: usize = 64;
@@ -70,8 +70,8 @@ pub fn function(record: &[u8], which: u64) -> Result<Function, Answer> {
     // Last, whether the lists keep apart. On cubes stand first in the record,
     // so an on cube's index is also its index among all cubes.
     let f = Function { n, on: list[..a].to_vec(), off: list[a..].to_vec() };
-    if let Some(index) = f.first_clash() {
-        return refused(7, CUBES + 2 * index);
+    if let Some(Clash { at, pattern }) = f.first_clash() {
+        return Err(Answer::refused(7, which, CUBES + 2 * at).naming(pattern));
     }
     Ok(f)
 }

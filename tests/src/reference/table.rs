@@ -5,7 +5,7 @@
 //! the codes chooses among those that it has, so that a sweep can see which faults met.
 
 use super::answer::{Answer, ALL_ELSE, OF_BUFFER, OF_F};
-use super::pattern::{names, Cube, Function, INPUTS};
+use super::pattern::{names, Clash, Cube, Function, INPUTS};
 use super::record::{function, record, CUBES, MOST_CUBES};
 
 /// Which of a line's faults is told.
@@ -248,7 +248,7 @@ pub fn reading(text: &[u8]) -> Reading {
 
 impl Reading {
     /// The function of the terms so far.
-    fn function(&self) -> Function {
+    pub fn function(&self) -> Function {
         let Before { n, on, off, .. } = self.before.clone();
         Function { n: n.unwrap_or(0), on, off }
     }
@@ -264,8 +264,8 @@ impl Reading {
 
     /// 7: an on cube and an off cube share a pattern, at the first such on cube.
     fn clash(&self) -> Option<Answer> {
-        let at = self.function().first_clash()?;
-        Some(Answer::refused(7, OF_F, CUBES + 2 * at))
+        let Clash { at, pattern } = self.function().first_clash()?;
+        Some(Answer::refused(7, OF_F, CUBES + 2 * at).naming(pattern))
     }
 
     /// 18: the record is longer than the buffer.

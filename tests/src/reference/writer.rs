@@ -1,7 +1,7 @@
 //! Writing a function record.
 
 use super::answer::{Answer, ALL_ELSE, OF_BUFFER};
-use super::pattern::Function;
+use super::pattern::{Clash, Function};
 use super::record::{cubes, first_bad_cube, record, MOST_CUBES};
 
 /// In the writer's refusals, record 1 is the on list and 2 the off list.
@@ -38,8 +38,8 @@ fn check(n: u8, on: &[u8], off: &[u8], room: usize) -> Result<Vec<u8>, Answer> {
         }
     }
     let f = Function { n: n as usize, on: cubes(on), off: cubes(off) };
-    if let Some(index) = f.first_clash() {
-        return Err(Answer::refused(7, ON_LIST, 2 * index));
+    if let Some(Clash { at, pattern }) = f.first_clash() {
+        return Err(Answer::refused(7, ON_LIST, 2 * at).naming(pattern));
     }
     let bytes = record(&f);
     if bytes.len() > room {

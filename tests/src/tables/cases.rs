@@ -19,12 +19,14 @@ pub const TABLES_OF_NAMED: [&str; 6] = [
 /// Some text, so many times over.
 type Run = (&'static str, usize);
 
-/// A table that is read: its code (0 if it is accepted), the place, and the record.
+/// A table that is read: its code (0 if it is accepted), place and pattern, and the
+/// record.
 pub struct TableCase {
     pub name: &'static str,
     pub runs: &'static [Run],
     pub code: u64,
     pub place: usize,
+    pub pattern: usize,
     pub record: Option<&'static [u8]>,
 }
 
@@ -36,17 +38,28 @@ impl TableCase {
     pub fn answer(&self) -> Answer {
         match self.code {
             0 => Answer::accepted(3, self.place),
-            code => Answer::refused(code, 1, self.place),
+            code => Answer::refused(code, 1, self.place).naming(self.pattern),
         }
     }
 }
 
 const fn reads(name: &'static str, runs: &'static [Run], record: &'static [u8]) -> TableCase {
-    TableCase { name, runs, code: 0, place: record.len(), record: Some(record) }
+    TableCase { name, runs, code: 0, place: record.len(), pattern: 0, record: Some(record) }
 }
 
 const fn fails(name: &'static str, runs: &'static [Run], code: u64, place: usize) -> TableCase {
-    TableCase { name, runs, code, place, record: None }
+    TableCase { name, runs, code, place, pattern: 0, record: None }
+}
+
+/// The on cube at this place shares this pattern with an off cube, and none that is
+/// smaller.
+const fn clashes(
+    name: &'static str,
+    runs: &'static [Run],
+    place: usize,
+    pattern: usize,
+) -> TableCase {
+    TableCase { name, runs, code: 7, place, pattern, record: None }
 }
 
 /// The keywords that every table has, in three lines.
@@ -181,8 +194,14 @@ pub const TABLES: &[TableCase] = &[
     fails("65 on cubes and a shared pattern", &[ONE, ("1 1\n", 65), ("- 0\n", 1), END], 4, 3),
     fails("65 off cubes and a shared pattern", &[ONE, ("1 0\n", 65), ("- 1\n", 1), END], 4, 4),
     fails("65 on cubes, miscounted", &[ONE, (".p 64\n", 1), ("1 1\n", 65), END], 22, 70),
-    fails("a shared pattern", &[TWO, ("-1 0\n11 1\n", 1), END], 7, 5),
-    fails("the second on cube", &[TWO, ("10 1\n01 0\n-1 1\n00 0\n", 1), END], 7, 7),
-    fails("cube 63 of 64", &[TWO, ("11 1\n", 63), ("-- 1\n00 0\n", 1), END], 7, 131),
+    // Input 0 stands first and is the pattern's lowest bit: off at 2, 3, on at 3.
+    clashes("a shared pattern", &[TWO, ("-1 0\n11 1\n", 1), END], 5, 3),
+    // On at 1 and at 2, 3, off at 2 and at 0.
+    clashes("the second on cube", &[TWO, ("10 1\n01 0\n-1 1\n00 0\n", 1), END], 7, 2),
+    clashes("cube 63 of 64", &[TWO, ("11 1\n", 63), ("-- 1\n00 0\n", 1), END], 131, 0),
+    // On at 2, 3, off at 3 and at 2.
+    clashes("a later off term's is smaller", &[TWO, ("-1 1\n11 0\n01 0\n", 1), END], 5, 2),
+    // On at 2, 3 and everywhere, off at 1, 3.
+    clashes("a later on term's is smaller", &[TWO, ("1- 0\n-1 1\n-- 1\n", 1), END], 5, 3),
     fails("a shared pattern, and no .e", &[TWO, ("-1 0\n11 1\n", 1)], 21, 6),
 ];

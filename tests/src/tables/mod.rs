@@ -12,8 +12,11 @@ pub mod texts;
 
 use crate::calls::TableCalls;
 use crate::lent::{byte, inside, lent, other_byte};
+use crate::patterns::others_of_clash;
 use crate::records::Outcome;
 use crate::reference::answer::Answer;
+use crate::reference::pattern::{Clash, Function};
+use crate::reference::record::record;
 use crate::reference::table::{reading, write_table};
 use crate::show::{self, hex_near};
 use crate::tally::Tally;
@@ -24,6 +27,10 @@ pub const WRITE: &str = "write_table";
 /// the place of a code 4, which tells the list, and of a code 7, which tells the cube;
 pub const TOO_MANY: &str = "read_table, a list too long, by place";
 pub const CLASH: &str = "read_table, a clash, by on cube";
+/// the patterns of 7;
+pub const PATTERNS: [&str; 2] = ["read_table, 7 by pattern", "write_table, 7 by pattern"];
+/// where it was 7, how often each wrong pattern is another, by its index in `OF_CLASH`;
+pub const OTHER_PATTERN: &str = "read_table, 7, a wrong pattern is another, by mistake";
 /// buffers, by code;
 pub const EMPTY: [&str; 2] = ["read_table, buffer empty", "write_table, buffer empty"];
 pub const ONE_SHORT: [&str; 2] = ["read_table, one byte short", "write_table, one byte short"];
@@ -108,7 +115,10 @@ impl Trial {
         self.tally.add(READ, want.code);
         match want.code {
             4 => self.tally.add(TOO_MANY, want.place),
-            7 => self.tally.add(CLASH, (want.place - 5) / 2),
+            7 => {
+                self.tally.add(CLASH, (want.place - 5) / 2);
+                self.tally.add(PATTERNS[0], want.pattern);
+            }
             _ => {}
         }
         Ok(want)
@@ -159,6 +169,19 @@ impl Trial {
         let (want, written) = write_table(record, room);
         self.writes(record).compare(room, byte, want, written.as_deref())?;
         self.tally.add(WRITE, want.code);
+        if want.code == 7 {
+            self.tally.add(PATTERNS[1], want.pattern);
+        }
+        Ok(())
+    }
+
+    /// A function whose lists meet: its table is read, and its record written.
+    pub fn clash(&mut self, text: &[u8], f: &Function, clash: Clash) -> Outcome {
+        for room in [0, LONGEST_RECORD] {
+            self.read_into(text, room)?;
+        }
+        self.write(&record(f))?;
+        others_of_clash(f, clash).for_each(|mistake| self.tally.add(OTHER_PATTERN, mistake));
         Ok(())
     }
 

@@ -89,7 +89,10 @@ pub fn rules_of_order(trial: &mut Trial) -> Outcome {
                     }
                     Told::Line(code, at) => Answer::refused(code, 1, numbers[at]),
                     Told::After(18, place) => Answer::refused(18, 4, place),
-                    Told::After(code, place) => Answer::refused(code, 1, place),
+                    // The pattern of 7 is no matter of order: the trial compares it.
+                    Told::After(code, place) => {
+                        Answer { pattern: told.pattern, ..Answer::refused(code, 1, place) }
+                    }
                     Told::Nothing => Answer::accepted(3, told.place as usize),
                 };
                 let met = side.also.is_none_or(|code| deserved[1..].contains(&code));

@@ -7,19 +7,20 @@ use super::texts::{
 };
 use super::{Trial, LONGEST_RECORD, LONGEST_TABLE};
 use crate::cases::NAMED;
+use crate::patterns::{clash_at, clashing};
 use crate::random::{
     any_cube, any_function, any_size, few, full_function, function_of, spoiled, Random,
 };
 use crate::records::sweeps::every_string;
 use crate::records::Outcome;
-use crate::reference::pattern::{every_cube, Cube, Function};
+use crate::reference::pattern::{every_cube, patterns, Cube, Function, INPUTS};
 use crate::reference::record::{record, CUBES, MARK};
 
 /// A sweep makes its inputs and lets the trial compare them.
 pub type Sweep = fn(&mut Trial) -> Outcome;
 
 /// All sweeps, the longest first.
-pub const ALL: [Sweep; 14] = [
+pub const ALL: [Sweep; 15] = [
     short_texts,
     short_lines,
     damaged_tables,
@@ -29,6 +30,7 @@ pub const ALL: [Sweep; 14] = [
     first_lines,
     long_lists,
     late_clashes,
+    clashes,
     several_faults,
     buffers,
     damaged_records,
@@ -233,6 +235,23 @@ pub fn late_clashes(trial: &mut Trial) -> Outcome {
             let lines = good(&mut random, &f);
             let (text, _) = set(&mut random, &lines);
             trial.read(&text)?;
+        }
+    }
+    Ok(())
+}
+
+/// Functions whose lists meet, in many ways and at every pattern.
+pub fn clashes(trial: &mut Trial) -> Outcome {
+    let mut random = Random::new(611);
+    for n in 1..=INPUTS {
+        for pattern in patterns(n) {
+            let any = clashing(&mut random, n);
+            let first = any.first_clash().expect("made so");
+            for (f, clash) in [(any, first), clash_at(&mut random, n, pattern)] {
+                let lines = good(&mut random, &f);
+                let (text, _) = set(&mut random, &lines);
+                trial.clash(&text, &f, clash)?;
+            }
         }
     }
     Ok(())

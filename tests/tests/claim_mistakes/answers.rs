@@ -2,16 +2,20 @@
 
 use zap_tests::claims::sweeps::Sweep;
 use zap_tests::claims::{sweeps, Call};
+use zap_tests::matches::wiring_of;
+use zap_tests::patterns::{OfWiring, OF_WIRING};
 use zap_tests::reference::answer::{Answer, ALL_ELSE, MATCH, NO_MATCH, OF_CLAIM, OF_F, OF_G};
 use zap_tests::reference::checker::{check, Checked, Node, NodeByte};
 use zap_tests::reference::claim::{MATCH_MARK, REFUSAL_MARK, SPLIT, TREES, WIRING};
+use zap_tests::reference::two::two;
 use zap_tests::reference::wiring::Choice;
-use zap_tests::wrong::{Reading, READINGS};
+use zap_tests::wirings::Given;
+use zap_tests::wrong::{misnaming, READINGS};
 
 use super::Mistake;
 
 pub fn mistakes() -> Vec<Mistake> {
-    [everything(), numbers(), headers(), wirings(), places(), records()]
+    [everything(), numbers(), headers(), wirings(), patterns(), places(), records()]
         .into_iter()
         .flatten()
         .collect()
@@ -340,8 +344,70 @@ fn wirings() -> Vec<Mistake> {
             instead(12, |asked| asked.with(asked.right.place as usize, asked.fault() % 32)),
             sweeps::damaged_match_claims,
         ),
-        ("14 at the first wiring byte", instead(14, |_| refused(14, WIRING)), sweeps::match_claims),
+        (
+            "14 at the first wiring byte",
+            instead(14, |asked| Answer { place: WIRING as u64, ..asked.right }),
+            sweeps::match_claims,
+        ),
     ]
+}
+
+/// 14 with a wrong pattern.
+fn misnamed(wrong: OfWiring) -> Call {
+    Box::new(move |f, g, claim| {
+        let right = check(f, g, claim).answer;
+        if right.code != 14 {
+            return right.packed();
+        }
+        let given = Given::new(two(f, g).expect("14 is of the claim"));
+        right.naming(wrong(&given, &wiring_of(claim), right.pattern as usize)).packed()
+    })
+}
+
+fn patterns() -> Vec<Mistake> {
+    let wirings = OF_WIRING.map(|(name, wrong)| (name, misnamed(wrong)));
+    let wirings = wirings.map(|(name, call)| (name, call, sweeps::wrong_wirings as Sweep));
+    let records =
+        misnaming().map(|(name, other)| (name, read(other), sweeps::clashing_records as Sweep));
+    let others: [Mistake; 6] = [
+        (
+            "a pattern left in an accepted match",
+            instead(0, |asked| match asked.right.kind {
+                MATCH => asked.right.naming(1),
+                _ => asked.right,
+            }),
+            sweeps::match_claims,
+        ),
+        (
+            "a pattern left in an accepted refusal",
+            instead(0, |asked| match asked.right.kind {
+                NO_MATCH => asked.right.naming(255),
+                _ => asked.right,
+            }),
+            sweeps::small_trees,
+        ),
+        (
+            "a pattern told with 13",
+            instead(13, |asked| asked.right.naming(1)),
+            sweeps::short_claims,
+        ),
+        (
+            "the pattern of 14 told as its place",
+            instead(14, |asked| Answer { place: asked.right.pattern, pattern: 0, ..asked.right }),
+            sweeps::match_claims,
+        ),
+        (
+            "the pattern and its place",
+            instead(14, |asked| Answer { place: asked.right.pattern, ..asked.right }),
+            sweeps::match_claims,
+        ),
+        (
+            "the pattern without its top bit",
+            instead(14, |asked| asked.right.naming(asked.right.pattern as usize % 128)),
+            sweeps::known_patterns,
+        ),
+    ];
+    wirings.into_iter().chain(records).chain(others).collect()
 }
 
 fn places() -> Vec<Mistake> {
@@ -413,7 +479,7 @@ fn at_the_node(asked: &Asked) -> Answer {
 }
 
 /// A wrong reading of the records.
-fn read(other: Reading) -> Call {
+fn read(other: impl Fn(&[u8], &[u8], Answer) -> Answer + 'static) -> Call {
     Box::new(move |f, g, claim| other(f, g, check(f, g, claim).answer).packed())
 }
 

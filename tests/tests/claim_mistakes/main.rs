@@ -19,7 +19,14 @@ type Mistake = (&'static str, Call, Sweep);
 
 #[test]
 fn the_reference_passes() {
-    for sweep in [sweeps::short_claims, sweeps::match_claims, sweeps::forged_claims] {
+    let sweeps: [Sweep; 5] = [
+        sweeps::short_claims,
+        sweeps::match_claims,
+        sweeps::forged_claims,
+        sweeps::known_patterns,
+        sweeps::clashing_records,
+    ];
+    for sweep in sweeps {
         for call in [answers::unchanged(), rules::unchanged()] {
             assert_eq!(sweep(&mut Trial::new(call)), Ok(()));
         }

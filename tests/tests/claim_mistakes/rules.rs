@@ -81,7 +81,8 @@ fn by(rules: Rules) -> Call {
                 let inputs = Partial::from_bytes(&claim[WIRING..], two.n()).expect("a wiring");
                 match (rules.agree)(&two, claim[3] == 1, &inputs) {
                     true => Ok(Answer::accepted(MATCH, claim.len())),
-                    false => Err(refused(14, 0)),
+                    // The right pattern, if there is one: the mistakes are in the code.
+                    false => Err(Answer { pattern: right.pattern, ..refused(14, 0) }),
                 }
             }
             _ => Ok(right),

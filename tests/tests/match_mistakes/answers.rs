@@ -6,7 +6,7 @@ use zap_tests::reference::answer::{Answer, ALL_ELSE, MATCH, NO_MATCH, OF_BUFFER,
 use zap_tests::reference::answer::{OF_F, OF_G};
 use zap_tests::reference::claim::{MATCH_MARK, REFUSAL_MARK, TREES, WIRING};
 use zap_tests::reference::matcher::find;
-use zap_tests::wrong::{Reading, READINGS};
+use zap_tests::wrong::{misnaming, READINGS};
 
 use super::{kind, Mistake};
 
@@ -443,13 +443,31 @@ fn all_but(place: fn(&[u8]) -> usize) -> Call {
 }
 
 /// A wrong reading of the records.
-fn read(other: Reading) -> Call {
+fn read(other: impl Fn(&[u8], &[u8], Answer) -> Answer + 'static) -> Call {
     Box::new(move |f, g, out| other(f, g, Answer::unpacked(unchanged()(f, g, out))).packed())
 }
 
 fn records() -> Vec<Mistake> {
     let readings = READINGS.map(|(name, other)| (name, read(other), sweeps::bad_records as Sweep));
-    let others: [Mistake; 2] = [
+    let patterns =
+        misnaming().map(|(name, other)| (name, read(other), sweeps::clashing_records as Sweep));
+    let others: [Mistake; 4] = [
+        (
+            "a pattern left in an accepted answer",
+            told(|asked| match asked.right.code {
+                0 => asked.right.naming(1),
+                _ => asked.right,
+            }),
+            sweeps::small_functions,
+        ),
+        (
+            "a pattern told with 18",
+            told(|asked| match asked.right.code {
+                18 => asked.right.naming(255),
+                _ => asked.right,
+            }),
+            sweeps::small_functions,
+        ),
         (
             "9 at the start",
             told(|asked| match asked.right.code {
@@ -467,5 +485,5 @@ fn records() -> Vec<Mistake> {
             sweeps::bad_records,
         ),
     ];
-    readings.into_iter().chain(others).collect()
+    readings.into_iter().chain(patterns).chain(others).collect()
 }

@@ -21,8 +21,8 @@ use zap_tests::tally::{self, Tally};
 
 use crate::matched::{picture, read_picture};
 use crate::{
-    answer_of, answered, choice_words, counted, forms, in_form, numbers, object, product, sign,
-    thousands,
+    answer_of, answered, choice_words, counted, forms, in_form, inputs_at, numbers, object,
+    product, sign, thousands,
 };
 
 /// The nodes of a refusal's trees that end before a place, by section 6 of FORMATS.md.
@@ -130,6 +130,8 @@ pub struct Runs {
 const CHECKED: &str = "zap check and explain, by code";
 const KINDS: &str = "zap check and explain, accepted, by kind";
 const PATTERNS: &str = "zap explain, patterns shown, by code";
+const DISAGREE: &str = "zap check and explain, where they disagree, by q";
+const APART: &str = "zap check and explain, where they disagree at patterns apart";
 const TREES: &str = "zap explain, trees shown, by code";
 const DEEPEST: &str = "zap explain, trees shown, by depth";
 
@@ -209,6 +211,7 @@ impl Runs {
                 _ => "refused",
             };
             assert_eq!(object.text("result"), result);
+            assert_eq!(object.get("disagreement").is_some(), want.code == 14, "{explained}");
         }
 
         // A wiring that is whole is shown by its patterns, a refusal by its trees, once
@@ -237,8 +240,17 @@ impl Runs {
             let depths = [false, true].map(|q| reading.depths(q).len());
             tally.add(DEEPEST, depths[0].max(depths[1]).saturating_sub(1) as u64);
         } else if whole {
-            expect_patterns(&two, &wiring_of(claim), &told.0, &told.1);
+            let wiring = wiring_of(claim);
+            expect_patterns(&two, &wiring, &told.0, &told.1);
             tally.add(PATTERNS, want.code);
+            if want.code == 14 {
+                let row = row(&two, &wiring, want.pattern as usize);
+                expect_disagreement(two.n(), row, &checked.0, &checked.1);
+                expect_disagreement(two.n(), row, &told.0, &told.1);
+                tally.add(DISAGREE, wiring.q as u64);
+                // A pattern of f in the place of g's would be seen.
+                tally.add(APART, (row.0 != row.1) as u64);
+            }
         }
         answer
     }
@@ -247,26 +259,50 @@ impl Runs {
 /// A pattern of g, that of f, f's value, what it asks of g, and g's value.
 type Row = (usize, usize, char, char, char);
 
+fn row(two: &Two, wiring: &Wiring, y: usize) -> Row {
+    let x = read_at(&wiring.inputs, y);
+    let f = sign(&two.f, x);
+    let asks = match (f, wiring.q) {
+        ('1', true) => '0',
+        ('0', true) => '1',
+        _ => f,
+    };
+    (y, x, f, asks, sign(&two.g, y))
+}
+
+fn read_row(object: &Json) -> Row {
+    let [y, x] = ["g_at", "f_at"].map(|name| object.number(name) as usize);
+    let [f, asks, g] = ["f", "asks", "g"].map(|name| object.text(name).parse().expect("a sign"));
+    (y, x, f, asks, g)
+}
+
+/// Where the two disagree, in words and in an object.
+fn expect_disagreement(n: usize, row: Row, text: &str, object: &Json) {
+    let (y, x, f, asks, g) = row;
+    assert_ne!(asks, g, "{row:?}");
+    let word = |sign| match sign {
+        '1' => "on",
+        '0' => "off",
+        _ => panic!("{row:?}: one is open"),
+    };
+    let there = match (word(f), word(g)) {
+        (f, g) if f == g => format!("both are {f}; with the output inverted they should differ"),
+        (f, g) => format!("f is {f} and g is {g}; with the output plain they should be alike"),
+    };
+    let lines = [
+        format!("  g's inputs {}: pattern {y} of g", inputs_at(y, n)),
+        format!("  f's inputs {} through the wiring: pattern {x} of f", inputs_at(x, n)),
+        format!("  there {there}"),
+    ];
+    assert_eq!(text.split("\n\n").nth(1), Some(&lines.join("\n")[..]), "{text}");
+    assert_eq!(read_row(object.get("disagreement").expect("told")), row);
+}
+
 /// The patterns that both specify, each with what f asks of g there.
 fn expect_patterns(two: &Two, wiring: &Wiring, text: &str, object: &Json) {
-    let row = |y| -> Row {
-        let x = read_at(&wiring.inputs, y);
-        let f = sign(&two.f, x);
-        let asks = match (f, wiring.q) {
-            ('1', true) => '0',
-            ('0', true) => '1',
-            _ => f,
-        };
-        (y, x, f, asks, sign(&two.g, y))
-    };
-    let mut rows: Vec<Row> = patterns(two.n()).map(row).collect();
+    let mut rows: Vec<Row> = patterns(two.n()).map(|y| row(two, wiring, y)).collect();
     rows.retain(|&(_, _, f, _, g)| f != '-' && g != '-');
-    let listed = object.list("patterns").iter().map(|row| -> Row {
-        let [y, x] = ["g_at", "f_at"].map(|name| row.number(name) as usize);
-        let [f, asks, g] = ["f", "asks", "g"].map(|name| row.text(name).parse().expect("a sign"));
-        (y, x, f, asks, g)
-    });
-    assert_eq!(listed.collect::<Vec<Row>>(), rows);
+    assert_eq!(object.list("patterns").iter().map(read_row).collect::<Vec<Row>>(), rows);
 
     // The same in the text, with the patterns in binary beside them.
     let n = two.n();
@@ -381,10 +417,12 @@ fn expect_measure(reading: &Reading, length: usize, text: &str) {
 #[test]
 fn claims_are_checked_and_explained_as_by_the_reference() {
     let tally = tally::of_all(sweeps::ALL.map(|sweep| move || Runs::of(sweep)));
-    let wanted: [(_, &[u64]); 5] = [
+    let wanted: [(_, &[u64]); 7] = [
         (CHECKED, &[0, 1, 2, 3, 4, 5, 6, 7, 8, 9, 10, 11, 12, 13, 14, 15, 16, 17]),
         (KINDS, &[MATCH, NO_MATCH]),
         (PATTERNS, &[0, 14]),
+        (DISAGREE, &[0, 1]),
+        (APART, &[0, 1]),
         (TREES, &[0, 1, 8, 15, 16, 17]),
         (DEEPEST, &[0, 1, 2, 3, 4]),
     ];

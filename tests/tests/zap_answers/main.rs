@@ -20,7 +20,7 @@ use zap_tests::command::{repository, zap, Ran};
 use zap_tests::json::Json;
 use zap_tests::reference::answer::{Answer, OF_F};
 use zap_tests::reference::pair::asks;
-use zap_tests::reference::pattern::{patterns, Cube, Function};
+use zap_tests::reference::pattern::{patterns, value, Cube, Function};
 use zap_tests::reference::programs::hex;
 use zap_tests::reference::record::function;
 use zap_tests::reference::table::read_table;
@@ -51,16 +51,16 @@ fn object(ran: &Ran) -> Json {
     all.remove(0)
 }
 
-/// The four numbers of an object.
+/// The five numbers of an object.
 fn answer_of(object: &Json) -> Answer {
-    let [code, kind, record, place] =
-        ["code", "kind", "record", "place"].map(|name| object.number(name));
-    Answer { code, kind, record, place }
+    let [code, kind, record, place, pattern] =
+        ["code", "kind", "record", "place", "pattern"].map(|name| object.number(name));
+    Answer { code, kind, record, place, pattern }
 }
 
 /// The same as a line of text.
-fn numbers(Answer { code, kind, record, place }: Answer) -> String {
-    format!("code {code}, kind {kind}, record {record}, place {place}")
+fn numbers(Answer { code, kind, record, place, pattern }: Answer) -> String {
+    format!("code {code}, kind {kind}, record {record}, place {place}, pattern {pattern}")
 }
 
 /// 75323621 as 75,323,621.
@@ -110,6 +110,12 @@ fn sign(f: &Function, pattern: usize) -> char {
 
 fn signs(f: &Function) -> String {
     patterns(f.n).map(|pattern| sign(f, pattern)).collect()
+}
+
+/// The inputs at a pattern: `x0 = 1, x1 = 0`.
+fn inputs_at(pattern: usize, n: usize) -> String {
+    let input = |i| format!("x{i} = {}", value(pattern, i) as u8);
+    (0..n).map(input).collect::<Vec<String>>().join(", ")
 }
 
 /// `x0·x2'`, or 1 for the cube without literals.

@@ -134,7 +134,7 @@ fn the_longest_refusal_of_all_is_found() {
     for part in [
         "no match: none of the 20,643,840 wirings agrees",
         "75,323,621 bytes, 20,643,840 closings and 13,392,098 splits",
-        "code 0, kind 2, record 0, place 75323621",
+        "code 0, kind 2, record 0, place 75323621, pattern 0",
     ] {
         assert!(ran.out.contains(part), "no {part:?} in {}", ran.out);
     }

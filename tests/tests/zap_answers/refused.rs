@@ -6,16 +6,21 @@ use std::fs;
 use zap_tests::cases::{CONJ, CONST, DISJ, ODD, WIRE};
 use zap_tests::claims::trees::split_everywhere;
 use zap_tests::command::{repository, zap, Folder};
+use zap_tests::json::Json;
 use zap_tests::matches::pairs::{both_ends, last_input};
 use zap_tests::reference::answer::{Answer, OF_CLAIM, OF_F, OF_G};
+use zap_tests::reference::pattern::Function;
 use zap_tests::reference::programs::hex;
-use zap_tests::reference::record::record;
+use zap_tests::reference::record::{cubes, record};
 
 use crate::shown::ends_and_words;
-use crate::{answer_of, answered, counted, forms, in_form, numbers, object, objects, thousands};
+use crate::{
+    answer_of, answered, counted, forms, in_form, inputs_at, numbers, object, objects, product,
+    thousands,
+};
 
-/// The codes of include/zap.h but 0: what each is given for, and what its place is, as
-/// the comment beside it says.
+/// The codes of include/zap.h but 0: what each is given for, and what its place is, and
+/// of some the pattern, as the comment beside it says.
 pub fn header_codes() -> BTreeMap<u64, (String, String)> {
     let header = fs::read_to_string(repository().join("include/zap.h")).expect("the header");
     let (_, after) = header.split_once("enum zap_codes {").expect("the codes");
@@ -56,21 +61,38 @@ fn the_table_of_codes_is_the_headers() {
     assert_eq!(listed.len(), codes.len());
     for (row, (number, (words, place))) in listed.iter().zip(&codes) {
         assert_eq!(row.number("code"), *number);
+        let (place, pattern) = match place.split_once("; pattern: ") {
+            Some((place, pattern)) => (place, Some(Json::Text(pattern.to_string()))),
+            None => (&place[..], None),
+        };
         assert_eq!([row.text("words"), row.text("place")], [words, place], "{number}");
+        assert_eq!(row.get("pattern"), pattern.as_ref(), "{number}");
+        assert_eq!(pattern.is_some(), [7, 14].contains(number), "{number}");
     }
 }
 
 /// Something that is refused, by hand from the tables of FORMATS.md, section 8: the
-/// code, the bytes at fault, the place, and the places that are marked.
+/// code, the bytes at fault, the place, the places that are marked, and the pattern.
 struct Fault {
     code: u64,
     bytes: &'static [u8],
     place: usize,
     marked: &'static [usize],
+    pattern: usize,
 }
 
 const fn fault(code: u64, bytes: &'static [u8], place: usize, marked: &'static [usize]) -> Fault {
-    Fault { code, bytes, place, marked }
+    Fault { code, bytes, place, marked, pattern: 0 }
+}
+
+impl Fault {
+    const fn naming(self, pattern: usize) -> Fault {
+        Fault { pattern, ..self }
+    }
+
+    fn answer(&self, record: u64) -> Answer {
+        Answer::refused(self.code, record, self.place).naming(self.pattern)
+    }
 }
 
 /// Functions, refused wherever they stand.
@@ -89,7 +111,11 @@ const FUNCTIONS: &[Fault] = &[
     fault(5, &[0x46, 0x4E, 2, 6, 0, 1, 0, 1, 0, 1, 0, 1, 0, 1, 0, 4, 0], 15, &[15, 16]),
     fault(6, &[0x46, 0x4E, 2, 1, 0, 1, 1], 5, &[5, 6]),
     fault(6, &[0x46, 0x4E, 2, 1, 1, 1, 0, 2, 2], 7, &[7, 8]),
-    fault(7, &[0x46, 0x4E, 2, 2, 1, 1, 2, 2, 0, 3, 0], 7, &[7, 8]),
+    fault(7, &[0x46, 0x4E, 2, 2, 1, 1, 2, 2, 0, 3, 0], 7, &[7, 8]).naming(3),
+    // x0·x1 is the first, and holds 3 alone; x0' shares 0 with the cube without literals.
+    fault(7, &[0x46, 0x4E, 2, 2, 1, 3, 0, 0, 1, 0, 0], 5, &[5, 6]).naming(3),
+    // x0 shares 3 with x0·x1, and 1 with x0·x1'.
+    fault(7, &[0x46, 0x4E, 2, 1, 2, 1, 0, 3, 0, 1, 2], 5, &[5, 6]).naming(1),
     fault(8, &[0x46, 0x4E, 1, 0, 0, 0], 5, &[5]),
 ];
 
@@ -105,6 +131,12 @@ const CLAIMS: &[([&[u8]; 2], Fault)] = &[
     ([CONJ, DISJ], fault(13, &[0x4D, 0x54, 2, 1, 0x10, 0x00], 5, &[5])),
     // No byte is at fault, but all of them together.
     ([WIRE, WIRE], fault(14, &[0x4D, 0x54, 1, 0, 0x10], 0, &[])),
+    // x0 is y1, x1 is y0 inverted. At 0 x is 2, and both are off; at 1 it is 0, f is off
+    // and g is on.
+    ([CONJ, DISJ], fault(14, &[0x4D, 0x54, 2, 0, 1, 0x10], 0, &[]).naming(1)),
+    // x0 is y1 inverted, x1 is y0 inverted. At 0 f is read at 3 and is on, at 1 and 2 it
+    // is off, and g the other; at 3 both are off.
+    ([CONJ, ODD], fault(14, &[0x4D, 0x54, 2, 1, 0x11, 0x10], 0, &[]).naming(3)),
     ([CONST, WIRE], fault(15, &[0x52, 0x46, 1, 0, 0, 1], 5, &[5])),
     ([CONST, WIRE], fault(15, &[0x52, 0x46, 1, 2], 3, &[3])),
     ([CONST, WIRE], fault(16, &[0x52, 0x46, 1, 0xFF, 0xFF], 4, &[4])),
@@ -142,7 +174,7 @@ impl Refused<'_> {
 
     /// Runs these words in the folder, for a person and for a script.
     fn expect(&self, folder: &Folder, words: &str) {
-        let Answer { code, record, place, .. } = self.answer;
+        let Answer { code, record, place, pattern, .. } = self.answer;
         let (given_for, _) = &header_codes()[&code];
         let ran = folder.zap(words);
         answered(&ran, self.status());
@@ -156,7 +188,8 @@ impl Refused<'_> {
         };
         let end = match code {
             1 => format!("(code 1), after {}", counted(place as usize, "byte")),
-            14 => "(code 14)".to_string(),
+            7 => format!("(code 7), at byte {place}; {}", shared_in_words(self.bytes, self.answer)),
+            14 => format!("(code 14), first at pattern {pattern} of g"),
             _ => format!("(code {code}), at byte {}", thousands(place as usize)),
         };
         assert!(told.ends_with(&end), "{words}: no {end:?} in {told}");
@@ -167,7 +200,10 @@ impl Refused<'_> {
         for part in [&whose, &taken_for, given_for] {
             assert!(told.contains(&part[..]), "{words}: no {part:?} in {told}");
         }
-        let dump = read_dump(&ran.out);
+        let dump = match code {
+            14 => Dump::default(),
+            _ => read_dump(&ran.out),
+        };
         assert_eq!(dump.marked, self.marked, "{words}\n{}", ran.out);
         let right = |(&at, &byte): (&usize, &u8)| self.bytes.get(at) == Some(&byte);
         assert!(dump.bytes.iter().all(right), "{words}\n{}", ran.out);
@@ -190,23 +226,56 @@ impl Refused<'_> {
         assert_eq!(answer_of(&object), self.answer, "{words}");
         assert_eq!(object.text("result"), "refused");
         assert_eq!([object.text("words"), object.text("taken_for")], [given_for, self.form]);
+        expect_shared(&object, code, || shared(&lists(self.bytes), self.answer));
     }
 }
 
+/// The lists of a record that is refused with code 7 or not at all.
+fn lists(record: &[u8]) -> Function {
+    let cubes = cubes(&record[5..]);
+    let (on, off) = cubes.split_at(record[3] as usize);
+    Function { n: record[2] as usize, on: on.to_vec(), off: off.to_vec() }
+}
+
+/// The two cubes that code 7 is told with: the on cube at the place, and the first off
+/// cube that holds the pattern.
+pub fn shared(f: &Function, answer: Answer) -> [usize; 2] {
+    let pattern = answer.pattern as usize;
+    let on = (answer.place as usize - 5) / 2;
+    assert!(f.on[on].holds(pattern), "{f:?}: {answer:?}");
+    [on, f.off.iter().position(|cube| cube.holds(pattern)).expect("an off cube holds it")]
+}
+
+/// `on cube 1, x1, and off cube 0, x0·x1, share pattern 3: x0 = 1, x1 = 1`.
+pub fn shared_in_words(record: &[u8], answer: Answer) -> String {
+    let f = lists(record);
+    let [on, off] = shared(&f, answer);
+    let (of_on, of_off) = (product(f.on[on]), product(f.off[off]));
+    let at = inputs_at(answer.pattern as usize, f.n);
+    let share = format!("share pattern {}: {at}", answer.pattern);
+    format!("on cube {on}, {of_on}, and off cube {off}, {of_off}, {share}")
+}
+
+/// An object has the numbers of the two cubes, with code 7 alone.
+pub fn expect_shared(object: &Json, code: u64, cubes: impl FnOnce() -> [usize; 2]) {
+    let names = ["on_cube", "off_cube"];
+    match code {
+        7 => assert_eq!(names.map(|name| object.number(name) as usize), cubes()),
+        _ => assert_eq!(names.map(|name| object.get(name)), [None; 2]),
+    }
+}
+
+#[derive(Default)]
 struct Dump {
     bytes: BTreeMap<usize, u8>,
     marked: Vec<usize>,
 }
 
-/// The dump in a refusal, the second of its parts, if it has one: lines of a place and
-/// up to 16 bytes, each with a line of marks below it or without one. A mark counts
+/// The dump in a refusal, the second of its parts: lines of a place and up to 16 bytes, each with a line of marks below it or without one. A mark counts
 /// for the place that it stands under.
 fn read_dump(text: &str) -> Dump {
-    let mut dump = Dump { bytes: BTreeMap::new(), marked: vec![] };
+    let mut dump = Dump::default();
     let part = text.split("\n\n").nth(1).expect("a second part");
-    if part.starts_with("code") {
-        return dump;
-    }
     // The first byte of a line begins here, and each takes three columns.
     const START: usize = 9;
     let column = |end: usize| {
@@ -236,12 +305,13 @@ fn each_code_is_told_in_the_headers_words_with_its_bytes_marked() {
     folder.write("conj", CONJ);
     folder.write("claim", [0x4D, 0x54, 2, 0, 0, 1]);
     let mut codes = vec![];
-    for Fault { code, bytes, place, marked } in FUNCTIONS {
+    for fault in FUNCTIONS {
+        let Fault { code, bytes, marked, .. } = fault;
         codes.push(*code);
         for form in forms(bytes) {
             folder.write("bad", in_form(bytes, form));
             let of = |record| {
-                let answer = Answer::refused(*code, record, *place);
+                let answer = fault.answer(record);
                 Refused { name: "bad", form, bytes, answer, marked }
             };
             of(OF_F).expect(&folder, "show bad");
@@ -251,13 +321,14 @@ fn each_code_is_told_in_the_headers_words_with_its_bytes_marked() {
             of(OF_G).expect(&folder, "explain conj bad claim");
         }
     }
-    for ([f, g], Fault { code, bytes, place, marked }) in CLAIMS {
+    for ([f, g], fault) in CLAIMS {
+        let Fault { code, bytes, marked, .. } = fault;
         codes.push(*code);
         folder.write("f", f);
         folder.write("g", hex(g));
         for form in forms(bytes) {
             folder.write("claim", in_form(bytes, form));
-            let answer = Answer::refused(*code, OF_CLAIM, *place);
+            let answer = fault.answer(OF_CLAIM);
             let of = Refused { name: "claim", form, bytes, answer, marked };
             of.expect(&folder, "check f g claim");
             of.expect(&folder, "explain f g claim");
@@ -337,8 +408,8 @@ fn files_in_another_order_are_told() {
 #[test]
 fn far_bytes_are_marked_too() {
     let folder = Folder::new();
-    // 64 and 64 cubes, x7 and x7'; but on cube 63, without literals, is off as well. It
-    // begins at 5 + 2·63.
+    // 64 and 64 cubes, x7 and x7'; but on cube 63, without literals, is off as well, at
+    // pattern 0 first. It begins at 5 + 2·63.
     let mut full =
         [&[0x46, 0x4E, 8, 64, 64][..], &[0x80, 0].repeat(64), &[0, 0x80].repeat(64)].concat();
     full[131] = 0;

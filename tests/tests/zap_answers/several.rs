@@ -16,7 +16,7 @@ use zap_tests::reference::two::two;
 use zap_tests::wirings::pairs::{any_wiring, copied};
 
 use crate::matched::{expect_found, found, sentence};
-use crate::refused::header_codes;
+use crate::refused::{header_codes, shared_in_words};
 use crate::{answer_of, answered, counted, in_form, objects};
 
 /// How f stands to one g: the row of the table, its line, and what its object has.
@@ -40,6 +40,7 @@ impl Stands {
                 let (words, _) = &header_codes()[&answer.code];
                 let place = match answer.code {
                     1 => format!("after {}", counted(answer.place as usize, "byte")),
+                    7 => format!("at byte {}; {}", answer.place, shared_in_words(g, answer)),
                     _ => format!("at byte {}", answer.place),
                 };
                 let why = format!("{words} (code {}), {place}", answer.code);

@@ -13,15 +13,17 @@ use zap_tests::reference::answer::{Answer, OF_F, OF_G};
 use zap_tests::reference::pattern::Function;
 use zap_tests::reference::programs::hex;
 use zap_tests::reference::record::record;
-use zap_tests::reference::table::{lines, read_table, table, words};
+use zap_tests::reference::table::{lines, read_table, reading, table, words};
 use zap_tests::reference::two::Two;
 use zap_tests::tables::cases::{TABLES, TABLES_OF_NAMED};
 use zap_tests::tables::texts::{bad_value, good, malformed, miscount, outside, set, term, unknown};
 use zap_tests::wirings::pairs::{any_wiring, copied};
 
 use crate::matched::found;
-use crate::refused::header_codes;
-use crate::{answer_of, answered, examples, name_of, numbers, object, run, thousands, Example};
+use crate::refused::{expect_shared, header_codes, shared};
+use crate::{
+    answer_of, answered, examples, inputs_at, name_of, numbers, object, run, thousands, Example,
+};
 
 // ---- Accepted tables ----
 
@@ -302,11 +304,36 @@ fn expect_refused(folder: &Folder, text: &[u8], answer: Answer) {
         let listed: Vec<usize> = object.list("lines").iter().map(whole).collect();
         assert_eq!(listed, shown, "{words}");
         assert!(first.contains(object.text("fault")), "{words}: {first}");
+        expect_shared(&object, code, || shared(&reading(text).function(), answer));
+        if code == 7 {
+            let (fault, lines) = shared_terms(text, answer);
+            assert_eq!((object.text("fault"), listed), (&fault[..], lines), "{words}");
+        }
     }
     let ran = folder.zap("summary bad.pla");
     answered(&ran, 2);
     let told = ran.out.starts_with("bad.pla, taken for a table: refused: ");
     assert!(told && ran.out.contains(&format!("(code {code})")), "{}", ran.out);
+}
+
+/// Code 7 of a table in words, and the two lines that show it. Up to `.e` every line that
+/// begins with no dot is a term.
+fn shared_terms(text: &[u8], answer: Answer) -> (String, Vec<usize>) {
+    let f = reading(text).function();
+    let [on, off] = shared(&f, answer);
+    let rows: Vec<Vec<&[u8]>> = lines(text).into_iter().map(words).collect();
+    let line = |output: &[u8], at| {
+        let rows = rows.iter().enumerate().take_while(|(_, row)| row.first() != Some(&&b".e"[..]));
+        let terms = rows.filter(|(_, row)| row.first().is_some_and(|word| !word.starts_with(b".")));
+        let mut terms = terms.filter(|(_, row)| row[1] == output);
+        terms.nth(at).expect("a term for each cube").0 + 1
+    };
+    let (on, off) = (line(b"1", on), line(b"0", off));
+    let terms =
+        format!("the terms at line {} (on) and line {} (off)", thousands(on), thousands(off));
+    let pattern = answer.pattern as usize;
+    let fault = format!("{terms} share pattern {pattern}: {}", inputs_at(pattern, f.n));
+    (fault, vec![on.min(off), on.max(off)])
 }
 
 fn whole(number: &Json) -> usize {

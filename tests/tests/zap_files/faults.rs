@@ -242,7 +242,7 @@ fn expect_refusals(folder: &Folder, file: &str, [code, place]: [u64; 2], taken: 
         let json = folder.zap(&format!("{words} --json"));
         let answer = format!(
             "\"result\":\"refused\",{}",
-            numbers_in_json(Answer { code, kind: 0, record, place })
+            numbers_in_json(Answer::refused(code, record, place as usize))
         );
         let form = format!("\"taken_for\":\"{form}\"");
         let told = json.out.contains(&answer) && json.out.contains(&form);

@@ -62,7 +62,7 @@ fn expect_longest(folder: &Folder, explained: fn(&Folder)) {
     });
 }
 
-const LONGEST: &str = "code 0, kind 2, record 0, place 75323621\n";
+const LONGEST: &str = "code 0, kind 2, record 0, place 75323621, pattern 0\n";
 
 /// 1 + 16 + 224 + 2,688 + 26,880 + 215,040 + 1,290,240 + 5,160,960 + 10,321,920 nodes.
 fn explained_in_words(folder: &Folder) {

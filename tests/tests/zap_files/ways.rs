@@ -18,7 +18,7 @@ use zap_tests::wirings::pairs::any_pair;
 const LETTERS: &[u8] = &[0x46, 0x4E, 8, 1, 2, 0xCD, 0x12, 0, 0xCD, 0xAB, 0x44];
 
 fn figures_of_letters(name: &str) -> Ran {
-    let answer = r#""result":"accepted","code":0,"kind":3,"record":0,"place":11"#;
+    let answer = r#""result":"accepted","code":0,"kind":3,"record":0,"place":11,"pattern":0"#;
     let figures = r#""n":8,"on":2,"off":10,"open":244,"in_use":8"#;
     let out = format!("{{\"verb\":\"summary\",\"file\":\"{name}\",{answer},{figures}}}\n");
     Ran { out, err: String::new(), status: 0 }
@@ -118,8 +118,9 @@ fn product(cube: &Cube) -> String {
     format!("\"{}\"", if literals.is_empty() { "1".into() } else { literals.join("\u{b7}") })
 }
 
-pub fn numbers_in_json(Answer { code, kind, record, place }: Answer) -> String {
-    format!("\"code\":{code},\"kind\":{kind},\"record\":{record},\"place\":{place}")
+pub fn numbers_in_json(Answer { code, kind, record, place, pattern }: Answer) -> String {
+    let place = format!("\"record\":{record},\"place\":{place},\"pattern\":{pattern}");
+    format!("\"code\":{code},\"kind\":{kind},{place}")
 }
 
 /// What is read is seen whole: an accepted function by its cubes, a refused one by its
@@ -140,9 +141,10 @@ fn expect_shown(folder: &Folder, bytes: &[u8]) {
             let ran = folder.zap("show --json f");
             assert!(ran.out.starts_with(&start) && ran.status == 0, "{context}\n{ran:?}\n{start}");
         }
-        Err(Answer { code, place, .. }) => {
+        Err(Answer { code, place, pattern, .. }) => {
             let ran = folder.zap("show f");
-            let numbers = format!("code {code}, kind 0, record 1, place {place}");
+            let numbers =
+                format!("code {code}, kind 0, record 1, place {place}, pattern {pattern}");
             assert_eq!((ran.out.lines().last(), ran.status), (Some(&*numbers), 2), "{context}");
             // A long one is shown near the fault alone.
             if bytes.len() <= 256 {

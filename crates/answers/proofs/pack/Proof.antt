@@ -1,4 +1,4 @@
--- The four numbers keep apart: each but the place is a byte.
+-- The five numbers keep apart: each but the place is a byte, and the place has 32 bits.
 use mathlib.Core.Path.{refl}
 use native.Mathlib.Omega.{arith}
 use borrow.Author.Needs.{needs}
@@ -9,7 +9,7 @@ use Rattle.answers.proofs.pack.Tie as tie
 returns : tie.Need-returns
 unfolding packed
 returns c =
-    let k = c .before .before .struct-known .given in
+    let k = c .before .before .before .struct-known .given in
     let code = k .0 .fits in
     let kind = k .1 .0 .fits in
     let who = k .1 .1 .0 .fits in (
@@ -19,6 +19,7 @@ returns c =
         kind-told = omega (arith, code, kind, who);
         record-told = omega (arith, code, kind, who);
         place-told = omega (arith, code, kind, who);
+        pattern-told = omega (arith, code, kind, who);
       },
     )
 
@@ -26,6 +27,9 @@ pub pack-spec : {M : Type 1} → statement M
 pack-spec =
     tie.close
     (tie.spec
+    (λ c. search needs)
+    (λ c. search needs)
+    (λ c. search needs)
     (λ c. search needs)
     (λ c. search needs)
     (λ c. search needs)

@@ -42,7 +42,7 @@ by-claim c r e = e ∙ sym (or-else-next _ _ (ap (λ (a : Answer). a .code) (sym
 returns-2 : tie.Need-returns-2
 returns-2 c =
     let t = c .before in
-    by-claim (t .before .before .before) _ (by-stop 3 _ _ _ _ (t .before .before .claim-fault .ensures) (t .if2 .taken) (c .refused .ensures))
+    by-claim (t .before .before .before) _ (by-stop 3 _ _ _ _ (t .before .before .claim-fault .ensures) (t .if2 .taken) (c .refused-by .ensures))
 
 returns-3 : tie.Need-returns-3
 returns-3 c =

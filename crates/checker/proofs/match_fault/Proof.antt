@@ -1,25 +1,24 @@
--- The header, the length and q, the choices, and whether a dead pair is found.
+-- The header, the length and q, the choices, and where f and g disagree.
 use Prim.Native.Nat.{ℕ, _+_}
-use mathlib.Core.Path.{_≡_, refl, sym, ap, ap₂, _∙_, subst}
-use mathlib.Core.Bool.{not, cond}
+use mathlib.Core.Path.{_≡_, sym, ap, _∙_, subst}
 use mathlib.Core.List.{List, []}
 use borrow.Author.Needs.{needs}
 use native.Mathlib.Omega.{arith}
 use lib.ListN.{length, getD, drop, length-drop}
 use Rattle.answers.specs.declared.Fault.{Fault}
-use Rattle.answers.specs.Answers.{fault, sound, byte-fault, length-fault, _then_}
+use Rattle.answers.specs.Answers.{byte-fault, length-fault, _then_}
 use Rattle.answers.proofs.Faults.{Byte, byte-sound, length-sound, sound-as, then-assoc, then-both, then-met, then-ends}
 use Rattle.rules.proofs.Cut.{Reached}
 use Rattle.records.specs.Records.{inputs}
-use Rattle.wirings.specs.Wirings.{straight, agrees}
-use Rattle.wirings.specs.Pairs.{first-dead}
+use Rattle.wirings.specs.Wirings.{straight, disagreement}
 use Rattle.records.proofs.Frame.{few-inputs, framed-both}
-use Rattle.partial.specs.declared.Found.{Found}
-use Rattle.partial.specs.Partial.{StandsFor, found}
+use Rattle.cubes.specs.Cubes.{pattern-of}
+use Rattle.partial.specs.declared.Wiring.{Wiring}
+use Rattle.partial.specs.Partial.{StandsFor, partial}
 use Rattle.partial.proofs.Standing.{stands-n, stands-prefix, stands-formed}
-use Rattle.partial.proofs.Whole.{agrees-found}
-use Rattle.checker.specs.Checking.{header-fault, choices-fault, match-fault}
+use Rattle.checker.specs.Checking.{header-fault, choices-fault, agreement-fault, match-fault}
 use Rattle.checker.proofs.Making.{choices-sound, choices-all}
+use Rattle.checker.proofs.Disagreeing.{agree-nowhere, disagree-at-pattern}
 use Rattle.checker.proofs.match_fault.Statement.{statement}
 use Rattle.checker.proofs.match_fault.Tie as tie
 
@@ -35,7 +34,7 @@ module _ (f g c : List ℕ) where
   chosen = choices-fault n [] (drop 4 c) 4
 
   abbrev agreed : Fault
-  agreed = cond (agrees (getD c 3 0) f g (drop 4 c)) sound (fault 14 0)
+  agreed = agreement-fault (getD c 3 0) f g (drop 4 c)
 
   match-steps : match-fault f g c ≡ header-fault c 0x54 n then (frame then (chosen then agreed))
   unfolding match-fault
@@ -74,17 +73,20 @@ made : (c : tie.Else3) → let a = c .before .before .before .before .before .be
     StandsFor (c .before .before .before .wire .result .wiring) (inputs (a .g .now)) (drop 4 (a .claim .now))
 made c = subst (StandsFor _ _) (choices-all _ [] _ (reached c .allowed)) (c .before .before .before .wire .ensures .wiring)
 
--- the wiring agrees exactly if no dead pair is found
-tested : (c : tie.After-first-dead) → let a = c .before .before .before .before .before .before .before .before .before .before .before .before .before .before .before .before .before .args in
-    agrees (getD (a .claim .now) 3 0) (a .f .now) (a .g .now) (drop 4 (a .claim .now)) ≡ not (c .first-dead .result .found)
-tested c =
+-- as many as there are inputs
+whole : (c : tie.Else3) → let w = c .before .before .before .wire .result .wiring in w .depth ≡ w .n
+unfolding partial
+whole c =
+    let stands = made c in
+    ap (λ (w : Wiring). w .depth) (stands .is) ∙ omega (arith, reached c .total) ∙ sym (stands-n _ _ _ stands)
+
+-- what was found is where they disagree
+found : (c : tie.After-disagreement) → let a = c .before .before .before .before .before .before .before .before .before .before .before .before .before .before .before .before .before .args in
+    pattern-of (c .disagreement .result) ≡ disagreement (getD (a .claim .now) 3 0) (a .f .now) (a .g .now) (drop 4 (a .claim .now))
+found c =
     let all = c .before .before in
-    let start = all .before .before .before .before .before .before .before .before .before .before .before .before .before .before .before in
-    let a = start .args in
-    let stands = made all in
-    agrees-found (getD (a .claim .now) 3 0) (a .f .now) (a .g .now) (start .pre) (drop 4 (a .claim .now)) (reached all)
-    ∙ ap (λ (x : Found). not (x .found))
-    (sym (c .first-dead .ensures ∙ ap₂ (λ (n : ℕ) (w : List ℕ). found (first-dead n (getD (a .claim .now) 3 0) (a .f .now) (a .g .now) w)) (stands-n _ _ _ stands) (stands-prefix _ _ _ stands)))
+    let a = all .before .before .before .before .before .before .before .before .before .before .before .before .before .before .before .args in
+    c .disagreement .ensures ∙ ap (disagreement (getD (a .claim .now) 3 0) (a .f .now) (a .g .now)) (stands-prefix _ _ _ (made all))
 
 -- after the header; after the length and q; and after the choices: what remains decides
 after-header : (c : tie.Else1) (r : Fault) → let a = c .before .before .before .before .before .before .before .args in
@@ -115,10 +117,10 @@ returns-3 c =
     after-frame (read .before) _ (then-ends _ _ _ (read .wire .ensures .fault) (c .if3 .taken))
 
 returns-4 : tie.Need-returns-4
-returns-4 c = after-choices (c .before .before .before) _ (simp (tested (c .before) ∙ ap not (c .if4 .taken)) refl)
+returns-4 c = after-choices (c .before .before .before .before) _ (sym (agree-nowhere _ _ _ _ _ (found (c .before .before)) (c .enum-told .given .1)))
 
 returns-5 : tie.Need-returns-5
-returns-5 c = after-choices (c .before .before .before) _ (simp (tested (c .before) ∙ ap not (c .if4 .left)) refl)
+returns-5 c = after-choices (c .before .before .before .before .before) _ (sym (disagree-at-pattern _ _ _ _ _ (found (c .before .before .before)) _ (c .before .pattern .given .1)))
 
 pub match-fault-spec : {M : Type 1} → statement M
 match-fault-spec =
@@ -136,7 +138,9 @@ match-fault-spec =
     returns-3
     (λ c. long (c .before .before .before .before .before) .1 .there)
     (λ c κs.
-    let h = framed-both _ _ (c .before .before .before .before .before .before .before .before .before .before .before .before .before .before .before .before .pre) in
-    (stands-formed _ _ _ (made (c .before)), (h .0 .long, h .1 .long)))
+    let stands = made (c .before) in
+    (stands-formed _ _ _ stands, (whole (c .before), (stands-n _ _ _ stands, c .before .before .before .before .before .before .before .before .before .before .before .before .before .before .before .before .pre))))
+    (λ c. search needs)
+    (λ c. search needs)
     returns-4
     returns-5)

@@ -1,4 +1,4 @@
--- Every place that the checker gives is far below 2^40, so the packed number fits.
+-- Every place that the checker gives is far below 2^32, so the packed number fits.
 use Prim.Native.Nat.{_≤_}
 use mathlib.Core.Path.{sym, subst}
 use native.Mathlib.Omega.{arith}

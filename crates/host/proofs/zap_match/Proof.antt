@@ -1,4 +1,4 @@
--- Every place that the matcher gives is far below 2^40, so the packed number fits; the buffer is as the matcher leaves it.
+-- Every place that the matcher gives is far below 2^32, so the packed number fits; the buffer is as the matcher leaves it.
 use Prim.Native.Nat.{_≤_}
 use mathlib.Core.Path.{sym, subst}
 use native.Mathlib.Omega.{arith}

@@ -1,4 +1,4 @@
--- Every place in the longest table is far below 2^40, so the packed number fits; the buffer is as the writer of tables leaves it.
+-- Every place in the longest table is far below 2^32, so the packed number fits; the buffer is as the writer of tables leaves it.
 use Prim.Native.Nat.{_^_, _<_}
 use mathlib.Core.Path.{sym, subst}
 use borrow.Author.Needs.{needs}
@@ -10,7 +10,7 @@ use Rattle.host.proofs.zap_write_table.Tie as tie
 
 place-fits : tie.Need-pack-requires
 place-fits c κs =
-    subst (λ (a : Answer). a .place < 2 ^ 40) (sym (c .before .before .write-table .ensures .returned)) (table-writing-place _ _)
+    subst (λ (a : Answer). a .place < 2 ^ 32) (sym (c .before .before .write-table .ensures .returned)) (table-writing-place _ _)
 
 returns : tie.Need-returns
 returns c =

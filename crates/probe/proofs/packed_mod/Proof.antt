@@ -1,4 +1,4 @@
--- The place is taken modulo 2^40, so the packed number fits.
+-- The place is taken modulo 2^32, so the packed number fits.
 use borrow.Author.Needs.{needs}
 use Rattle.probe.specs.Probe.{packed-mod}
 use Rattle.probe.proofs.packed_mod.Statement.{statement}

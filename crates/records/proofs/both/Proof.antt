@@ -34,7 +34,7 @@ returns : tie.Need-returns
 unfolding both-read
 returns c =
     let t = c .before in
-    by-stop 1 _ _ _ _ (t .before .before .record-fault .ensures) (t .if1 .taken) (c .refused .ensures)
+    by-stop 1 _ _ _ _ (t .before .before .record-fault .ensures) (t .if1 .taken) (c .refused-by .ensures)
 
 returns-2 : tie.Need-returns-2
 unfolding both-read
@@ -42,12 +42,12 @@ returns-2 c =
     let t = c .before in
     let e₁ = t .before .before .before in
     by-next 1 _ _ _ _ (e₁ .before .before .record-fault .ensures) (e₁ .if1 .left)
-    (by-stop 2 _ _ _ _ (t .before .before .record-fault2 .ensures) (t .if2 .taken) (c .refused2 .ensures))
+    (by-stop 2 _ _ _ _ (t .before .before .record-fault2 .ensures) (t .if2 .taken) (c .refused-by2 .ensures))
 
 returns-3 : tie.Need-returns-3
 returns-3 c =
     by-inputs (c .before .before .before .before) _
-    (c .refused3 .ensures ∙ ap (λ (t : Bool). cond t fine (refused 9 2 2)) (sym (ne-eqb _ _ (c .before .if3 .taken))))
+    (c .refused .ensures ∙ ap (λ (t : Bool). cond t fine (refused 9 2 2)) (sym (ne-eqb _ _ (c .before .if3 .taken))))
 
 returns-4 : tie.Need-returns-4
 returns-4 c =

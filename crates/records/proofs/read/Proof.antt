@@ -3,10 +3,9 @@ use mathlib.Core.Path.{_≡_, _∙_, ap}
 use borrow.Author.Needs.{needs}
 use borrow.Author.Tests.{eq-eqb, ne-eqb}
 use native.Mathlib.Omega.{arith}
-use Rattle.answers.specs.Answers.{refused}
+use Rattle.answers.specs.Answers.{refused-by}
 use Rattle.answers.proofs.Faults.{sound-as, bad-as}
 use Rattle.answers.specs.declared.Answer.{Answer}
-use Rattle.answers.specs.declared.Fault.{Fault}
 use Rattle.records.specs.Records.{with-counts, reading, record-fault, inputs, on-count, off-count}
 use Rattle.records.proofs.Frame.{record-sound}
 use Rattle.records.proofs.read.Statement.{statement}
@@ -20,7 +19,7 @@ returns : tie.Need-returns
 unfolding reading
 returns c =
     let e = c .before .before .before .record-fault .ensures in
-    simp (ne-eqb _ 0 (bad-as e (c .before .if1 .taken))) (ap (λ (a : Answer). with-counts a 0 0 0) (c .refused .ensures ∙ ap (λ (f : Fault). refused (f .code) 1 (f .place)) e))
+    simp (ne-eqb _ 0 (bad-as e (c .before .if1 .taken))) (ap (λ (a : Answer). with-counts a 0 0 0) (c .refused-by .ensures ∙ ap (refused-by 1) e))
 
 returns-2 : tie.Need-returns-2
 unfolding reading

@@ -6,7 +6,7 @@ use borrow.Author.Needs.{needs}
 use native.Mathlib.Omega.{arith}
 use lib.ListN.{take, drop}
 use Rattle.answers.proofs.Faults.{sound-as, bad-as}
-use Rattle.records.specs.Records.{off-at, off-list, header-fault, cubes-fault, clash-fault, clash-code, first-fault}
+use Rattle.records.specs.Records.{off-at, off-list, header-fault, cubes-fault, clash-fault, clash-code, clash-pattern, first-fault}
 use Rattle.records.proofs.Frame.{Framed, header-sound, ends-at-header, ends-at-cubes, ends-at-clash}
 use Rattle.records.proofs.Cubes.{front-long, clash-by-code}
 use Rattle.records.proofs.record_fault.Statement.{statement}
@@ -40,7 +40,7 @@ returns-3 c =
     let start = e₁ .before .before .before in
     let s = start .before .args .s .now in
     c .clash-fault .ensures
-    ∙ ap (λ (off : List ℕ). first-fault (clash-code 8 off) (drop 5 (take (off-at s) s)) 5) (c .before .off-list .ensures)
+    ∙ ap (λ (off : List ℕ). first-fault (clash-code 8 off) (clash-pattern 8 off) (drop 5 (take (off-at s) s)) 5) (c .before .off-list .ensures)
     ∙ clash-by-code _ (framed e₁) (λ i. start .shared-slice-known .given i .fits) (cubes e₂)
     ∙ sym (ends-at-clash _ (header e₁) (cubes e₂))
 

@@ -4,10 +4,9 @@ use borrow.Author.Needs.{needs}
 use borrow.Author.Tests.{eq-eqb, ne-eqb}
 use native.Mathlib.Omega.{arith}
 use Rattle.cubes.specs.Cubes.{patterns-held, inputs-used}
-use Rattle.answers.specs.Answers.{refused}
+use Rattle.answers.specs.Answers.{refused-by}
 use Rattle.answers.proofs.Faults.{sound-as, bad-as}
 use Rattle.answers.specs.declared.Answer.{Answer}
-use Rattle.answers.specs.declared.Fault.{Fault}
 use Rattle.records.specs.Records.{with-figures, summing, record-fault, inputs}
 use Rattle.records.proofs.Frame.{Sound, record-sound}
 use Rattle.records.proofs.summary.Statement.{statement}
@@ -24,7 +23,7 @@ returns : tie.Need-returns
 unfolding summing
 returns c =
     let e = c .before .before .before .record-fault .ensures in
-    simp (ne-eqb _ 0 (bad-as e (c .before .if1 .taken))) (ap (λ (a : Answer). with-figures a 0 0 0) (c .refused .ensures ∙ ap (λ (f : Fault). refused (f .code) 1 (f .place)) e))
+    simp (ne-eqb _ 0 (bad-as e (c .before .if1 .taken))) (ap (λ (a : Answer). with-figures a 0 0 0) (c .refused-by .ensures ∙ ap (refused-by 1) e))
 
 returns-2 : tie.Need-returns-2
 unfolding summing

@@ -25,16 +25,16 @@ read-table-spec =
     (λ c κs. search needs)
     (λ c κs. search needs)
     (λ c.
-    delivered-refusal _ _ _ _ (gathered-refused _ _ _ _ (c .before .before .before .before .before .before .gather .ensures) (c .before .if1 .taken) _ (c .refused .ensures) _)
-    (λ z. c .before .if1 .taken (ap (λ (x : Answer). x .code) (sym (c .refused .ensures)) ∙ z)))
+    delivered-refusal _ _ _ _ (gathered-refused _ _ _ _ (c .before .before .before .before .before .before .gather .ensures) (c .before .if1 .taken) _ (c .refused-by .ensures) _)
+    (λ z. c .before .if1 .taken (ap (λ (x : Answer). x .code) (sym (c .refused-by .ensures)) ∙ z)))
     (λ c κs. search needs)
     (λ c.
-    delivered-refusal _ _ _ _ (gathered-many-on _ _ _ _ (c .before .before .before .before .before .before .before .before .gather .ensures) (c .before .before .before .if1 .left) (c .before .if2 .taken) _ (c .refused2 .ensures) _)
-    (four _ 3 (c .refused2 .ensures)))
+    delivered-refusal _ _ _ _ (gathered-many-on _ _ _ _ (c .before .before .before .before .before .before .before .before .gather .ensures) (c .before .before .before .if1 .left) (c .before .if2 .taken) _ (c .refused .ensures) _)
+    (four _ 3 (c .refused .ensures)))
     (λ c κs. search needs)
     (λ c.
-    delivered-refusal _ _ _ _ (gathered-many-off _ _ _ _ (c .before .before .before .before .before .before .before .before .before .before .gather .ensures) (c .before .before .before .before .before .if1 .left) (c .before .before .before .if2 .left) (c .before .if3 .taken) _ (c .refused3 .ensures) _)
-    (four _ 4 (c .refused3 .ensures)))
+    delivered-refusal _ _ _ _ (gathered-many-off _ _ _ _ (c .before .before .before .before .before .before .before .before .before .before .gather .ensures) (c .before .before .before .before .before .if1 .left) (c .before .before .before .if2 .left) (c .before .if3 .taken) _ (c .refused2 .ensures) _)
+    (four _ 4 (c .refused2 .ensures)))
     (λ c. search needs)
     (λ c. search needs)
     (λ c. search needs)

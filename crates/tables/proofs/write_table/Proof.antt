@@ -40,7 +40,7 @@ returns : tie.Need-returns
 unfolding table-writing
 returns c =
     let tested = c .before in
-    let e = c .refused .ensures in
+    let e = c .refused-by .ensures in
     delivered-refusal _ _ _ _ (by-stop 1 _ _ _ _ (tested .before .before .record-fault .ensures) (tested .if1 .taken) e)
     (λ z. tested .if1 .taken (ap (λ (a : Answer). a .code) (sym e) ∙ z))
 
@@ -108,7 +108,7 @@ write-table-spec =
     (λ c. let h = with-head (c .before) in omega (arith, lines-most _ h, c .before .put-head .ensures .0))
     (λ c. let h = with-head (c .before) in omega (arith, lines-most _ h, c .before .put-head .ensures .0))
     (λ c κs. search needs)
-    (λ c. delivered-short _ 3 _ _ _ (by-room (c .before .before .before) _) _ (c .before .if2 .taken) (c .refused2 .ensures))
+    (λ c. delivered-short _ 3 _ _ _ (by-room (c .before .before .before) _) _ (c .before .if2 .taken) (c .refused .ensures))
     (λ c. search needs)
     (λ c. sym (length-take-le _ _ (omega arith)))
     (λ c κs. let made = c .before .before .before .before .put-head in omega (arith, length-take-le (made .result) (made .last .1 .1 .0) (omega arith)))
