@@ -1,16 +1,16 @@
 -- The smallest number that passes. The idea: what was looked for either is nowhere or passes with nothing below it, and only one
 -- answer is so; each law shows this of its answer. The smallest of two tests is the lesser of theirs, so that a walk over a list
 -- can keep the least so far.
-use Prim.Native.Nat.{ℕ, zero, suc, _%_, _^_, _≤_, _<_, min}
+use Prim.Native.Nat.{ℕ, zero, suc, _%_, _^_, _≤_, _<_}
 use mathlib.Core.Path.{_≡_, refl, sym, ap, ap₂, _∙_, subst}
 use mathlib.Core.Bool.{Bool, true, false, cond, _||_, false≢true}
 use mathlib.Core.Option.{Option, none, some}
 use mathlib.Core.Logic.{⊎-elim}
-use native.Mathlib.Nat.{le-refl, le-step, le-trans, mod-lt, mod-le, le-antisymm}
+use native.Mathlib.Nat.{le-refl, le-step, le-trans, mod-lt, le-antisymm}
 use native.Mathlib.Omega.{arith}
 use lib.Pow.{pow-mono, pow-pos}
 use Rattle.bits.specs.Bits.{any, or-next, smallest, IsSmallest, or-zero, lesser}
-use Rattle.bits.proofs.Tests.{or-left, or-right, neither, decide, below-or-not}
+use Rattle.bits.proofs.Tests.{or-left, or-right, below-or-not}
 use Rattle.bits.proofs.Below.{below-suc, any-at, any-if, any-none, not-at}
 
 -- ---- what an answer has to be

@@ -1,7 +1,7 @@
 -- What code 14 names, and that no other code of a claim names a pattern. The idea: of all the faults that reading a claim can give,
 -- the last of a match claim alone has a pattern; so what holds of a fault without one, and of that last, holds of the claim's.
 use Prim.Native.Nat.{ℕ, zero, suc, _+_, _-_, _^_}
-use mathlib.Core.Path.{_≡_, refl, sym, ap, _∙_}
+use mathlib.Core.Path.{_≡_, refl}
 use mathlib.Core.Bool.{Bool, true, false, cond}
 use mathlib.Core.List.{List, [], _∷_}
 use borrow.Author.Tests.{eqb-false, not-false}

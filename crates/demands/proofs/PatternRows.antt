@@ -1,15 +1,14 @@
 -- W-202 at cases, by computing: the wrong patterns that the contracts rule out.
 use Prim.Native.Nat.{ℕ}
-use mathlib.Core.Path.{_≡_, refl, ap, _∙_}
+use mathlib.Core.Path.{_≡_, refl, ap}
 use mathlib.Core.List.{List, [], _∷_, flatMap}
 use contract.Lifetimes.{Lfts}
 use borrow.Fn.Kinds.{Dens, resT, endedOf}
 use denote.Ref.{at-last}
 use denote.Triple.Clauses.{AtExit}
-use lib.ListN.{length, replicate}
-use Rattle.bits.specs.Bits.{bit, number, every, any, count, smallest, or-next, or-zero}
+use lib.ListN.{replicate}
+use Rattle.bits.specs.Bits.{bit, number, every, any, smallest, or-next, or-zero}
 use Rattle.cubes.specs.Cubes.{cube-holds, cubes-share, some-cube, least-with}
-use Rattle.answers.specs.declared.Answer.{Answer}
 use Rattle.answers.specs.Answers.{accepted, refused-at, _then_, by, _or-else_, byte-fault, length-fault, fits, buffer-after}
 use Rattle.records.specs.Records.{on-list, off-list, cube-code, clash-code, clash-pattern, first-fault, header-bytes, header-fault, record-fault, both-read, reading, summing}
 use Rattle.writer.specs.Writing.{few, sizes, cubes, writing}
@@ -17,7 +16,7 @@ use Rattle.wirings.specs.Wirings.{served, read-at, disagree-at, agrees, disagre
 use Rattle.checker.specs.Checking.{header-fault as claim-header, choice-code, choices-fault, agreement-fault, match-fault, claim-fault, kind-of, checking}
 use Rattle.matcher.specs.Matching.{matching}
 use Rattle.rules.specs.Lists.{some-in}
-use Rattle.demands.proofs.Table.{Conj, Disj, Wire, Conj-Disj, Row, check-of, match-of, Right, AllRight}
+use Rattle.demands.proofs.Table.{Conj, Disj, Wire, Conj-Disj, Row, check-of, match-of, AllRight}
 use Rattle.records.proofs.read.Kinds as read-kinds
 use Rattle.records.proofs.read.Reads as read
 use Rattle.records.proofs.summary.Kinds as summary-kinds

@@ -95,7 +95,7 @@ disagree-at (suc q) f g x y = is-on f x && is-on g y || is-off f x && is-off g y
 unfoldable pub agrees : ℕ → List ℕ → List ℕ → List ℕ → Bool
 agrees q f g w = not (any (2 ^ inputs g) (λ y. disagree-at q f g (read-at w y) y))
 
--- the smallest pattern y of g that is
+-- the smallest pattern y of g that is such, if there is one
 unfoldable pub disagreement : ℕ → List ℕ → List ℕ → List ℕ → Option ℕ
 disagreement q f g w = smallest (2 ^ inputs g) (λ y. disagree-at q f g (read-at w y) y)
 

@@ -1,7 +1,7 @@
 -- What the writer's code 7 names, and that none of its other codes names a pattern: every other answer is accepted, or refused for
 -- a size, a cube of its own or the room.
 use Prim.Native.Nat.{ℕ, _%_}
-use mathlib.Core.Path.{_≡_, refl, sym, _∙_}
+use mathlib.Core.Path.{_≡_, refl}
 use mathlib.Core.List.{List}
 use borrow.Author.Tests.{eqb-false}
 use lib.Dec.{ltb, eqb}
