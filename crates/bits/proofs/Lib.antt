@@ -3,6 +3,3 @@ pub mod Below
 pub mod Bit
 pub mod Mask
 pub mod Smallest
-pub mod Bytes
-pub mod Settled
-pub mod Lanes

@@ -1,4 +1,3 @@
 pub mod Masks
 pub mod Lists
-pub mod Crossed
 pub mod Settled

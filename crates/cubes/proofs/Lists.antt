@@ -1,22 +1,22 @@
 -- Walks over a list of cubes. The idea: at place `at` of the list, what remains is the cube there and the rest from
 -- `at + 2`; a loop keeps "what remains decides the whole".
-use Prim.Native.Nat.{ℕ, zero, suc, _+_, _-_, _*_, _^_, _≤_, _<_}
+use Prim.Native.Nat.{ℕ, zero, suc, _+_, _*_, _^_, _≤_, _<_, min}
 use mathlib.Core.Path.{_≡_, refl, sym, ap, ap₂, _∙_, subst}
-use mathlib.Core.Bool.{Bool, true, false, _&&_, _||_, false≢true, and-false, or-assoc, and-comm, and-or-distrib-left}
+use mathlib.Core.Bool.{Bool, true, false, _&&_, _||_, false≢true, and-false, and-comm, and-or-distrib-left}
 use mathlib.Core.List.{List, [], _∷_}
-use mathlib.Core.Option.{Option, none, Option·some-injective, Option·some-ne-none}
+use mathlib.Core.Option.{Option, none, some, Option·some-injective, Option·some-ne-none}
 use mathlib.Core.Logic.{⊎-elim}
 use native.Mathlib.Numerals.{add-one, add-two}
 use native.Mathlib.Omega.{arith}
 use lib.ListN.{length, getD, take, drop, length-drop}
-use lib.Seq.{drop-cons, drop-drop}
-use Rattle.bits.proofs.Tests.{or-left, either}
-use Rattle.bits.proofs.Below.{not-at, any-or, any-never, any-same}
-use Rattle.bits.proofs.Smallest.{found-any, none-any, smallest-none, smallest-same, smallest-or, lesser-none, lesser-assoc}
-use Rattle.bits.specs.Bits.{any, lesser}
+use lib.Seq.{drop-cons}
+use Rattle.bits.proofs.Tests.{or-left, either, neither}
+use Rattle.bits.proofs.Below.{any-or, any-never, any-same}
+use Rattle.bits.proofs.Smallest.{Means, smallest-means, found-any, none-any, smallest-none, smallest-same, smallest-or}
+use Rattle.bits.specs.Bits.{any, smallest, lesser}
 use Rattle.cubes.specs.declared.Shared.{Shared}
 use Rattle.cubes.specs.declared.Shared.the-variants.{Nowhere, At}
-use Rattle.cubes.specs.Cubes.{cube-holds, cubes-share, least-shared, some-cube, some-holds, least-with, pattern-of}
+use Rattle.cubes.specs.Cubes.{cube-holds, cubes-share, least-shared, some-cube, some-holds, least-with, pattern-of, number-of}
 
 -- what remains at a place with a whole cube: the cube, and what comes after it
 pub cube-there : (l : List ℕ) (at : ℕ) → at + 1 < length l → drop at l ≡ getD l at 0 ∷ getD l (at + 1) 0 ∷ drop (at + 2) l
@@ -64,7 +64,7 @@ Each Q (P ∷ []) = Unit {0}
 Each Q (P ∷ N ∷ rest) = Q P N × Each Q rest
 
 -- 2 * k, two at a time
-unfoldable pub twice : ℕ → ℕ
+unfoldable twice : ℕ → ℕ
 twice zero = zero
 twice (suc k) = suc (suc (twice k))
 
@@ -122,14 +122,6 @@ module _ (Q : ℕ → ℕ → Type 0) where
   pub each-drop : (k : ℕ) (l : List ℕ) → Each Q l → Each Q (drop (2 * k) l)
   each-drop k l e = subst (λ (m : ℕ). Each Q (drop m l)) (twice-is k) (drop-twice k l e)
 
--- some cube of a list passes: of its first k cubes, or of the others
-some-front : (t : ℕ → ℕ → Bool) (k : ℕ) (l : List ℕ) → some-cube t l ≡ some-cube t (take (twice k) l) || some-cube t (drop (twice k) l)
-unfolding some-cube twice
-some-front t zero l = refl
-some-front t (suc k) [] = refl
-some-front t (suc k) (P ∷ []) = refl
-some-front t (suc k) (P ∷ N ∷ l) = ap (λ (b : Bool). t P N || b) (some-front t k l) ∙ sym (or-assoc (t P N) (some-cube t (take (twice k) l)) (some-cube t (drop (twice k) l)))
-
 -- two tests that agree at each cube are passed alike
 pub some-same : (t u : ℕ → ℕ → Bool) (l : List ℕ) → Each (λ P N. t P N ≡ u P N) l → some-cube t l ≡ some-cube u l
 unfolding some-cube Each
@@ -186,30 +178,43 @@ module _ (n P N P′ N′ : ℕ) (r : Shared) (e : pattern-of r ≡ least-shared
   unfolding pattern-of least-shared cubes-share
   shared-nowhere h = none-any (λ x. cube-holds P N x && cube-holds P′ N′ x) (2 ^ n) (sym e ∙ ap pattern-of h)
 
--- where the first four cubes share no pattern, the others decide
-none-in-front : (P N : ℕ) (l : List ℕ) → some-cube (cubes-share 8 P N) (take 8 l) ≡ false → least-with 8 P N l ≡ least-with 8 P N (drop 8 l)
-unfolding least-with cubes-share twice
-none-in-front P N l e =
-    smallest-same _ _ (2 ^ 8) (λ x h.
-    ap (λ (t : Bool). cube-holds P N x && t) (some-front (λ P N. cube-holds P N x) 4 l)
-    ∙ and-or-distrib-left (cube-holds P N x) (some-holds (take 8 l) x) (some-holds (drop 8 l) x)
-    ∙ ap (λ (t : Bool). t || cube-holds P N x && some-holds (drop 8 l) x) (not-at (λ x. cube-holds P N x && some-holds (take 8 l) x) (2 ^ 8) none-shared x h))
-  where
-    none-shared : any (2 ^ 8) (λ x. cube-holds P N x && some-holds (take 8 l) x) ≡ false
-    none-shared = sym (cube-meets (2 ^ 8) (λ x. x) P N (take 8 l)) ∙ e
+-- ---- patterns as numbers
 
--- a walk has come to `at` and has the least of the cubes before it: with what remains, it is the least of all
+number-lesser : (a b : Option ℕ) → number-of a ≤ 256 → number-of b ≤ 256 → number-of (lesser a b) ≡ min (number-of a) (number-of b)
+unfolding number-of lesser
+number-lesser none b h k = omega arith
+number-lesser (some x) none h k = omega arith
+number-lesser (some x) (some y) h k = refl
+
+-- a number below 256 is the pattern
+pub number-found : (o : Option ℕ) (x : ℕ) → x ≡ number-of o → x < 256 → some x ≡ o
+unfolding number-of
+number-found none x e h = absurd (omega (arith, e, h))
+number-found (some y) x e h = ap some e
+
+-- a pattern of eight inputs is below 256
+module _ (p : ℕ → Bool) where
+  number-le : number-of (smallest (2 ^ 8) p) ≤ 256
+  unfolding number-of
+  number-le = go (smallest (2 ^ 8) p) (smallest-means p (2 ^ 8))
+    where
+      go : (o : Option ℕ) → Means (2 ^ 8) p o → number-of o ≤ 256
+      go none m = omega arith
+      go (some x) m = omega (arith, m .within)
+
+  number-none : 256 ≤ number-of (smallest (2 ^ 8) p) → none ≡ smallest (2 ^ 8) p
+  unfolding number-of
+  number-none = go (smallest (2 ^ 8) p) (smallest-means p (2 ^ 8))
+    where
+      go : (o : Option ℕ) → Means (2 ^ 8) p o → 256 ≤ number-of o → none ≡ o
+      go none m h = refl
+      go (some x) m h = absurd (omega (arith, m .within, h))
+
+-- ---- the walks for the smallest pattern shared with a list
+
 module _ (P N : ℕ) (l : List ℕ) where
-  pub record LeastWalk (least : Shared) (at : ℕ) : Type 0 where
-    pub within : at ≤ length l
-    pub rest : lesser (pattern-of least) (least-with 8 P N (drop at l)) ≡ least-with 8 P N l
-
-  pub least-starts : LeastWalk Nowhere 0
-  unfolding lesser pattern-of
-  least-starts = record { within = omega arith; rest = refl }
-
   -- the least of what remains is that of its first cube, or of the others
-  pub least-step : (at : ℕ) → at + 1 < length l
+  least-step : (at : ℕ) → at + 1 < length l
       → least-with 8 P N (drop at l) ≡ lesser (least-shared 8 P N (getD l at 0) (getD l (at + 1) 0)) (least-with 8 P N (drop (at + 2) l))
   unfolding least-with least-shared
   least-step at h =
@@ -218,47 +223,57 @@ module _ (P N : ℕ) (l : List ℕ) where
       ∙ and-or-distrib-left (cube-holds P N x) (cube-holds (getD l at 0) (getD l (at + 1) 0) x) (some-holds (drop (at + 2) l) x))
       ∙ smallest-or (λ x. cube-holds P N x && cube-holds (getD l at 0) (getD l (at + 1) 0) x) (λ x. cube-holds P N x && some-holds (drop (at + 2) l) x) (2 ^ 8)
 
-  -- a walk from `at` has come to `i`, and the cubes that it has passed share no pattern
-  pub record Passed (at i : ℕ) : Type 0 where
-    pub onward : at ≤ i
-    pub within : i ≤ length l
-    pub rest : least-with 8 P N (drop i l) ≡ least-with 8 P N (drop at l)
-
-  pub passed-starts : (at : ℕ) → at ≤ length l → Passed at at
-  passed-starts at h = record { onward = omega arith; within = h; rest = refl }
-
-  -- four cubes more share none
-  pub passed-goes : (at i : ℕ) → Passed at i → 8 ≤ length l - i → some-cube (cubes-share 8 P N) (take 8 (drop i l)) ≡ false → Passed at (i + 8)
-  passed-goes at i w h e = record {
-    onward = omega arith;
-    within = omega arith;
-    rest = ap (least-with 8 P N) (sym (drop-drop 8 i l)) ∙ sym (none-in-front P N (drop i l) e) ∙ w .rest;
-  }
-
-  pub least-end : (at : ℕ) → length l ≤ at + 1 → least-with 8 P N (drop at l) ≡ none
+  least-end : (at : ℕ) → length l ≤ at + 1 → least-with 8 P N (drop at l) ≡ none
   unfolding least-with
   least-end at h =
       smallest-none _ (2 ^ 8)
       (any-same _ _ (2 ^ 8) (λ x _. ap (λ (t : Bool). cube-holds P N x && t) (some-end (λ P N. cube-holds P N x) l at h) ∙ and-false (cube-holds P N x)) ∙ any-never (2 ^ 8))
 
-  module _ (least : Shared) (at : ℕ) (w : LeastWalk least at) where
-    pub least-goes : at + 1 < length l → (here next : Shared) → pattern-of here ≡ least-shared 8 P N (getD l at 0) (getD l (at + 1) 0)
-        → pattern-of next ≡ lesser (pattern-of least) (pattern-of here) → LeastWalk next (at + 2)
-    least-goes h here next e f = record {
+  -- a walk has come to `at`: if no cube before it is open, what remains decides
+  pub record OpenWalk (any : Bool) (at : ℕ) : Type 0 where
+    pub within : at ≤ length l
+    pub rest : any ≡ false → least-with 8 P N (drop at l) ≡ least-with 8 P N l
+
+  pub open-starts : OpenWalk false 0
+  open-starts = record { within = omega arith; rest = λ _. refl }
+
+  module _ (any : Bool) (at : ℕ) (w : OpenWalk any at) where
+    -- a cube that is not open shares nothing
+    pub open-goes : at + 1 < length l → (here : Bool) → (here ≡ false → least-shared 8 P N (getD l at 0) (getD l (at + 1) 0) ≡ none) → OpenWalk (any || here) (at + 2)
+    unfolding lesser
+    open-goes h here shut = record {
       within = omega arith;
-      rest = ap (λ (o : Option ℕ). lesser o (least-with 8 P N (drop (at + 2) l))) (f ∙ ap (lesser (pattern-of least)) e)
-          ∙ lesser-assoc (pattern-of least) _ _ ∙ ap (lesser (pattern-of least)) (sym (least-step at h)) ∙ w .rest;
+      rest = λ e.
+          let none-open = neither any here e in
+          sym (least-step at h ∙ ap (λ (o : Option ℕ). lesser o (least-with 8 P N (drop (at + 2) l))) (shut (none-open .1))) ∙ w .rest (none-open .0);
     }
 
-    -- past a cube that shares none
-    pub least-passes : at + 1 < length l → (here : Shared) → here ≡ Nowhere → pattern-of here ≡ least-shared 8 P N (getD l at 0) (getD l (at + 1) 0)
-        → LeastWalk least (at + 2)
-    unfolding pattern-of
-    least-passes h here nothing e = least-goes h here least e (sym (ap (λ (r : Shared). lesser (pattern-of least) (pattern-of r)) nothing ∙ lesser-none (pattern-of least)))
+    pub open-ends : length l ≤ at + 1 → any ≡ false → least-with 8 P N l ≡ none
+    open-ends h e = sym (w .rest e) ∙ least-end at h
 
-    -- and on to a place before which none is shared
-    pub least-moves : (i : ℕ) → i ≤ length l → least-with 8 P N (drop i l) ≡ least-with 8 P N (drop at l) → LeastWalk least i
-    least-moves i h e = record { within = h; rest = ap (lesser (pattern-of least)) e ∙ w .rest }
+  -- a walk has come to `at` and has the least of the cubes before it: with what remains, it is the least of all
+  pub record LeastWalk (least at : ℕ) : Type 0 where
+    pub within : at ≤ length l
+    pub small : least ≤ 256
+    pub rest : min least (number-of (least-with 8 P N (drop at l))) ≡ number-of (least-with 8 P N l)
 
-    pub least-ends : length l ≤ at + 1 → pattern-of least ≡ least-with 8 P N l
-    least-ends h = sym (lesser-none (pattern-of least)) ∙ ap (lesser (pattern-of least)) (sym (least-end at h)) ∙ w .rest
+  pub least-starts : LeastWalk 256 0
+  unfolding least-with
+  least-starts = record { within = omega arith; small = omega arith; rest = omega (arith, number-le (λ x. cube-holds P N x && some-holds l x)) }
+
+  module _ (least at : ℕ) (w : LeastWalk least at) where
+    pub least-goes : at + 1 < length l → (here next : ℕ) → here ≡ number-of (least-shared 8 P N (getD l at 0) (getD l (at + 1) 0)) → next ≡ min least here → LeastWalk next (at + 2)
+    unfolding least-with least-shared
+    least-goes h here next e f =
+        let first = least-shared 8 P N (getD l at 0) (getD l (at + 1) 0) in
+        let others = least-with 8 P N (drop (at + 2) l) in
+        let both = ap number-of (least-step at h) ∙ number-lesser first others (number-le _) (number-le _) in
+        record { within = omega arith; small = omega (arith, w .small); rest = omega (arith, both, w .rest) }
+
+    pub least-ends : length l ≤ at + 1 → least ≡ number-of (least-with 8 P N l)
+    unfolding number-of
+    least-ends h = omega (arith, w .rest, w .small, ap number-of (least-end at h))
+
+  pub least-none : 256 ≤ number-of (least-with 8 P N l) → none ≡ least-with 8 P N l
+  unfolding least-with
+  least-none = number-none _

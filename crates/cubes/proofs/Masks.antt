@@ -1,6 +1,6 @@
 -- What the mask tests say of patterns. The idea: a cube holds x where, at each input, P ≤ x and N + x ≤ 1 as bits; the
 -- operators of the code act bit by bit, so each law is one question of arithmetic on single bits.
-use Prim.Native.Nat.{ℕ, _+_, _-_, _%_, _^_, _≤_, _<_, min, max}
+use Prim.Native.Nat.{ℕ, _+_, _-_, _*_, _/_, _%_, _^_, _≤_, _<_, min, max}
 use mathlib.Core.Path.{_≡_, refl, sym, ap, ap₂, _∙_}
 use mathlib.Core.Bool.{Bool, true, false, cond, _&&_}
 use mathlib.Core.Option.{some, none}
@@ -8,7 +8,7 @@ use mathlib.Core.Logic.{⊎-elim}
 use native.Mathlib.Nat.{lt-of-le-of-lt}
 use native.Mathlib.Omega.{arith}
 use borrow.Author.Tests.{leb-true, le-leb, eqb-true, eqb-false, eq-eqb}
-use lib.Bits.{bitAnd, bitOr, and-le-r, or-lt}
+use lib.Bits.{bitAnd, bitOr, and-le-r, and-comm, and-block, or-lt, or-mod, or-shr}
 use lib.Dec.{leb, eqb}
 use Rattle.bits.specs.Bits.{bit}
 use Rattle.bits.proofs.Tests.{both, both-left, both-right, same-test, not-passed, below-or-not}
@@ -136,6 +136,35 @@ module _ (P N P′ N′ : ℕ) where
             none-below = λ y l. not-passed (shared y) (λ q. omega (arith, l, not-below y q));
           }
       go false e = λ y _. not-passed (shared y) (λ q. eqb-false _ _ e (clear y q))
+
+-- two cubes share none where one of them asks for a 1 and the other for a 0; one number has both questions
+pub opposed-none : (P N P′ N′ : ℕ) → N < 2 ^ 8 → P′ < 2 ^ 8 → N′ < 2 ^ 8 → (bitAnd (P * 256 + N) (N′ * 256 + P′) ≡ 0 → ⊥) → least-shared 8 P N P′ N′ ≡ none
+unfolding least-shared
+opposed-none P N P′ N′ n p′ n′ asked =
+    smallest-by _ (2 ^ 8) none
+    (λ x _. not-passed _ (λ e. asked (nothing x (both-left (cube-holds P N x) (cube-holds P′ N′ x) e) (both-right (cube-holds P N x) (cube-holds P′ N′ x) e))))
+  where
+    nothing : (x : ℕ) → cube-holds P N x ≡ true → cube-holds P′ N′ x ≡ true → bitAnd (P * 256 + N) (N′ * 256 + P′) ≡ 0
+    nothing x e e′ =
+        and-block 8 P N′ N P′ n p′
+        ∙ ap₂ (λ (a b : ℕ). a * 256 + b) (not-crossed P N P′ N′ n′ x e e′) (and-comm N P′ ∙ not-crossed P′ N′ P N n x e′ e)
+
+-- the smallest pattern of two cubes whose masks stand in one number each
+pub least-joined : (own other : ℕ) → own < 2 ^ 16 → other < 2 ^ 16
+    → least-shared 8 (own % 256) (own / 256) (other % 256) (other / 256) ≡ cond (eqb (bitAnd (bitOr own other % 256) (bitOr own other / 256)) 0) (some (bitOr own other % 256)) none
+least-joined own other h k =
+    least-masks (own % 256) (own / 256) (other % 256) (other / 256) (omega arith) (omega arith) (omega arith) (omega arith)
+    ∙ ap₂ (λ (P N : ℕ). cond (eqb (bitAnd P N) 0) (some P) none) (sym (or-mod own other 8)) (sym (or-shr own other 8))
+
+-- whose masks are read off again
+pub least-apart : (P N P′ N′ own other : ℕ) → P < 2 ^ 8 → P′ < 2 ^ 8 → own ≡ N * 256 + P → other ≡ N′ * 256 + P′
+    → least-shared 8 (own % 256) (own / 256) (other % 256) (other / 256) ≡ least-shared 8 P N P′ N′
+least-apart P N P′ N′ own other p p′ e e′ =
+    let ones : own % 256 ≡ P = omega arith in
+    let zeros : own / 256 ≡ N = omega arith in
+    let ones′ : other % 256 ≡ P′ = omega arith in
+    let zeros′ : other / 256 ≡ N′ = omega arith in
+    cc
 
 -- ---- a cube of n inputs looks at no others
 

@@ -49,6 +49,11 @@ unfoldable pub pattern-of : Shared → Option ℕ
 pattern-of Nowhere = none
 pattern-of (At x) = some x
 
+-- a pattern as a number, 256 for none: the code compares these
+unfoldable pub number-of : Option ℕ → ℕ
+number-of none = 256
+number-of (some x) = x
+
 -- a function with these two lists is open at x: neither on nor off
 abbrev pub open-at : List ℕ → List ℕ → ℕ → Bool
 open-at on off x = not (some-holds on x) && not (some-holds off x)

@@ -1,12 +1,12 @@
 // Cubes as masks: tests of one cube, and walks over a list of cubes. Each contract speaks of patterns and inputs; that
 // masks do the same is proved in proofs/.
 ghost use mathlib.Core.Path.{_≡_};
-ghost use mathlib.Core.Bool.{true, false};
-ghost use Prim.Native.Nat.{ℕ, _≤_};
-ghost use lib.ListN.{length, drop};
+ghost use mathlib.Core.Bool.{false};
+ghost use mathlib.Core.Option.{none};
+ghost use Prim.Native.Nat.{ℕ, _+_, _*_, _/_, _%_, _≤_, _<_};
+ghost use lib.ListN.{length, getD};
 ghost use Rattle.bits.specs.Bits.{has, lesser};
-ghost use Rattle.bits.specs.Eight.{bytes};
-ghost use Rattle.cubes.specs.Cubes.{cube-names, cubes-share, least-shared, some-cube, some-holds, least-with, pattern-of, patterns-held, inputs-used};
+ghost use Rattle.cubes.specs.Cubes.{cube-names, cubes-share, least-shared, some-cube, some-holds, least-with, pattern-of, number-of, patterns-held, inputs-used};
 
 // The smallest pattern that is shared, or none.
 pub enum Shared {
@@ -44,53 +44,76 @@ pub fn lesser(a: Shared, b: Shared) -> Shared
     }
 }
 
-// The smallest pattern that the cube shares with any cube of the list. Most lists share none, so four cubes are passed over at
-// once where that can be, and after a cube that shares one the next is tried alone.
+// The smallest pattern that the cube shares with any cube of the list. Most lists share none, and that is seen first.
 pub fn least_with(pos: u8, neg: u8, cubes: &[u8]) -> Shared
     ensures { λ r. ⌜ pattern-of r ≡ least-with 8 pos neg (now (cubes .entry)) ⌝ }
 {
-    let mut least = Shared::Nowhere;
-    let mut at = past_opposed(pos, neg, cubes, 0);
+    if !any_open(pos, neg, cubes) {
+        return Shared::Nowhere;
+    }
+    let least = least_number(pos, neg, cubes);
+    if least < 256 {
+        return Shared::At(least as u8);
+    }
+    Shared::Nowhere
+}
+
+// Whether some cube of the list is open to the cube: no input that the one asks to be 1 is asked to be 0 by the other. Where none
+// is, none shares a pattern. This walk and the next have no early end, so that the compiler takes several cubes at once.
+fn any_open(pos: u8, neg: u8, cubes: &[u8]) -> bool
+    ensures { λ r. ⌜ (r ≡ false → least-with 8 pos neg (now (cubes .entry)) ≡ none) ⌝ }
+{
+    let opposite = joined(neg, pos);
+    let mut any = false;
+    let mut at = 0;
     while at + 1 < cubes.len() {
-        let here = shares(pos, neg, cubes[at], cubes[at + 1]);
-        match here {
-            Shared::Nowhere => {
-                at = past_opposed(pos, neg, cubes, at + 2);
-            }
-            Shared::At(_) => {
-                least = lesser(least, here);
-                at += 2;
-            }
+        any = any | (opposite & cube_at(cubes, at) == 0);
+        at += 2;
+    }
+    any
+}
+
+// The smallest pattern that the cube shares with any cube of the list, as a number.
+fn least_number(pos: u8, neg: u8, cubes: &[u8]) -> u16
+    ensures { λ r. ⌜ r ≡ number-of (least-with 8 pos neg (now (cubes .entry))) ⌝ }
+{
+    let own = joined(pos, neg);
+    let mut least = 256u16;
+    let mut at = 0;
+    while at + 1 < cubes.len() {
+        let here = shared_number(own, cube_at(cubes, at));
+        if here < least {
+            least = here;
         }
+        at += 2;
     }
     least
 }
 
-// A place from `at` on before which no cube shares a pattern: past every four cubes that are opposed, one four after the other.
-fn past_opposed(pos: u8, neg: u8, cubes: &[u8], at: usize) -> usize
-    requires { ⌜ at ≤ length (now cubes) ⌝ }
-    ensures { λ r. ⌜ (at ≤ r) × (r ≤ length (now (cubes .entry))) ⌝ }
-    ensures { λ r. ⌜ least-with 8 pos neg (drop r (now (cubes .entry))) ≡ least-with 8 pos neg (drop at (now (cubes .entry))) ⌝ }
+// The smallest pattern that two cubes share, as a number, of their masks as numbers: `shares` on 16 bits.
+fn shared_number(own: u16, other: u16) -> u16
+    ensures { λ r. ⌜ r ≡ number-of (least-shared 8 (own % 256) (own / 256) (other % 256) (other / 256)) ⌝ }
 {
-    let mut i = at;
-    while 8 <= cubes.len() - i {
-        if !opposed(pos, neg, bits::eight(cubes, i)) {
-            return i;
-        }
-        i += 8;
+    let both = own | other;
+    if (both % 256) & (both / 256) != 0 {
+        return 256;
     }
-    i
+    both % 256
 }
 
-// Whether each of four cubes asks for a 1 where the cube asks for a 0, or for a 0 where it asks for a 1; then none shares a
-// pattern with it. `crossed` has those inputs, 16 bits for each of the four. Such a lane is not 0 if its top bit is 1, or adding
-// 32767 to its other bits makes it so, with no carry into the next lane.
-fn opposed(pos: u8, neg: u8, four: u64) -> bool
-    ensures { λ r. ⌜ (r ≡ true → some-cube (cubes-share 8 pos neg) (bytes 8 four) ≡ false) ⌝ }
+// The masks of the cube at a place of the list as one number. Read in a function of its own, they are one load.
+fn cube_at(cubes: &[u8], at: usize) -> u16
+    requires { ⌜ at + 1 < length (now cubes) ⌝ }
+    ensures { λ r. ⌜ r ≡ getD (now (cubes .entry)) (at + 1) 0 * 256 + getD (now (cubes .entry)) at 0 ⌝ }
 {
-    let crossed = four & ((pos as u64 * 256 + neg as u64) * 0x0001_0001_0001_0001);
-    let named = ((crossed & 0x7FFF_7FFF_7FFF_7FFF) + 0x7FFF_7FFF_7FFF_7FFF) | crossed;
-    named & 0x8000_8000_8000_8000 == 0x8000_8000_8000_8000
+    joined(cubes[at], cubes[at + 1])
+}
+
+// The masks of a cube as one number, P below N.
+fn joined(pos: u8, neg: u8) -> u16
+    ensures { λ r. ⌜ r ≡ neg * 256 + pos ⌝ }
+{
+    pos as u16 + 256 * neg as u16
 }
 
 // Whether some cube of the list shares a pattern with the cube.

@@ -5,16 +5,17 @@ use Prim.Native.Nat.{ℕ, _+_, _%_, _^_, _≤_, _<_}
 use mathlib.Core.Path.{_≡_, refl, sym, ap, ap₂, _∙_, subst}
 use mathlib.Core.Bool.{Bool, true, _&&_, _||_, and-or-distrib-right}
 use mathlib.Core.List.{List, []}
-use mathlib.Core.Option.{Option, none}
+use mathlib.Core.Option.{Option, none, some}
 use native.Mathlib.Omega.{arith}
 use lib.ListN.{length, getD, drop}
-use Rattle.bits.specs.Bits.{lesser}
+use Rattle.bits.specs.Bits.{smallest, lesser}
+use Rattle.bits.proofs.Tests.{both-left}
+use Rattle.bits.proofs.Bit.{bits-le}
 use Rattle.bits.proofs.Below.{any-same, any-never}
-use Rattle.bits.proofs.Smallest.{smallest-none, smallest-same, smallest-or, smallest-narrow, lesser-none, lesser-assoc}
+use Rattle.bits.proofs.Smallest.{Means, smallest-means, smallest-none, smallest-same, smallest-or, smallest-narrow, lesser-none, lesser-assoc}
 use Rattle.cubes.specs.declared.Shared.{Shared}
-use Rattle.cubes.specs.declared.Shared.the-variants.{Nowhere}
 use Rattle.cubes.specs.Cubes.{cube-holds, some-holds, least-with, pattern-of}
-use Rattle.cubes.proofs.Masks.{holds-low}
+use Rattle.cubes.proofs.Masks.{holds-at, holds-low}
 use Rattle.cubes.proofs.Lists.{each-map, some-same, some-step, some-end}
 use Rattle.rules.specs.Rules.{follows}
 use Rattle.records.specs.Records.{inputs, Accepted}
@@ -25,17 +26,24 @@ use Rattle.wirings.specs.Pairs.{asks-one, asks-zero, carried-pos, carried-neg, 
 use Rattle.wirings.proofs.Agreement.{carried-holds, landed-lt, placed-byte, clean-side, both-hold, disagree-is}
 use Rattle.disagree.specs.Meeting.{some-carried, meeting}
 
--- ---- the walk over the list of f: with what remains, the least so far is the least of all
+-- ---- what a cube shares is no smaller than the inputs that it asks to be 1, so a least so far that is no greater than they stays
+
+pub lesser-stays : (P N x : ℕ) (l : List ℕ) → P < 2 ^ 8 → x ≤ P → some x ≡ lesser (some x) (least-with 8 P N l)
+unfolding least-with lesser
+lesser-stays P N x l p h = go (smallest (2 ^ 8) shared) (smallest-means shared (2 ^ 8))
+  where
+    shared : ℕ → Bool
+    shared y = cube-holds P N y && some-holds l y
+
+    go : (o : Option ℕ) → Means (2 ^ 8) shared o → some x ≡ lesser (some x) o
+    go none m = refl
+    go (some y) m =
+        let above = bits-le 8 P y p (λ i k. holds-at P N y (both-left (cube-holds P N y) (some-holds l y) (m .passes)) i k .ones) in
+        ap some (omega arith)
+
+-- ---- the walk over the list of f
 
 module _ (w l m : List ℕ) where
-  pub record MeetingWalk (least : Shared) (at : ℕ) : Type 0 where
-    pub within : at ≤ length l
-    pub rest : lesser (pattern-of least) (meeting w (drop at l) m) ≡ meeting w l m
-
-  pub meeting-starts : MeetingWalk Nowhere 0
-  unfolding lesser pattern-of
-  meeting-starts = record { within = omega arith; rest = refl }
-
   abbrev C : ℕ → ℕ
   C at = carried-pos w (getD l at 0) (getD l (at + 1) 0)
 
@@ -56,17 +64,25 @@ module _ (w l m : List ℕ) where
       smallest-none _ (2 ^ 8)
       (any-same _ _ (2 ^ 8) (λ y _. ap (λ (t : Bool). t && some-holds m y) (some-end (λ P N. cube-holds (carried-pos w P N) (carried-neg w P N) y) l at h)) ∙ any-never (2 ^ 8))
 
-  module _ (least : Shared) (at : ℕ) (k : MeetingWalk least at) where
-    pub meeting-goes : at + 1 < length l → (here next : Shared) → pattern-of here ≡ least-with 8 (C at) (D at) m
-        → pattern-of next ≡ lesser (pattern-of least) (pattern-of here) → MeetingWalk next (at + 2)
-    meeting-goes h here next e f = record {
-      within = omega arith;
-      rest = ap (λ (o : Option ℕ). lesser o (meeting w (drop (at + 2) l) m)) (f ∙ ap (lesser (pattern-of least)) e)
-          ∙ lesser-assoc (pattern-of least) _ _ ∙ ap (lesser (pattern-of least)) (sym (meeting-step at h)) ∙ k .rest;
-    }
+  -- with what remains, the least so far is the lesser of what was known at the start and of the whole
+  module _ (known : Shared) where
+    pub record MeetingWalk (least : Shared) (at : ℕ) : Type 0 where
+      pub within : at ≤ length l
+      pub rest : lesser (pattern-of least) (meeting w (drop at l) m) ≡ lesser (pattern-of known) (meeting w l m)
 
-    pub meeting-ends : length l ≤ at + 1 → pattern-of least ≡ meeting w l m
-    meeting-ends h = sym (lesser-none (pattern-of least)) ∙ ap (lesser (pattern-of least)) (sym (meeting-end at h)) ∙ k .rest
+    pub meeting-starts : MeetingWalk known 0
+    meeting-starts = record { within = omega arith; rest = refl }
+
+    module _ (least : Shared) (at : ℕ) (k : MeetingWalk least at) where
+      pub meeting-goes : at + 1 < length l → (next : Shared) → pattern-of next ≡ lesser (pattern-of least) (least-with 8 (C at) (D at) m) → MeetingWalk next (at + 2)
+      meeting-goes h next e = record {
+        within = omega arith;
+        rest = ap (λ (o : Option ℕ). lesser o (meeting w (drop (at + 2) l) m)) e
+            ∙ lesser-assoc (pattern-of least) _ _ ∙ ap (lesser (pattern-of least)) (sym (meeting-step at h)) ∙ k .rest;
+      }
+
+      pub meeting-ends : length l ≤ at + 1 → pattern-of least ≡ lesser (pattern-of known) (meeting w l m)
+      meeting-ends h = sym (lesser-none (pattern-of least)) ∙ ap (lesser (pattern-of least)) (sym (meeting-end at h)) ∙ k .rest
 
 -- ---- both lists of accepted records
 

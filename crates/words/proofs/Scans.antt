@@ -90,6 +90,22 @@ module _ (p : ℕ → Bool) where
         let more = front-passed n (drop i s) enough (omega (arith, is)) ∙ ap (λ (l : List ℕ). n + passed-over p l) (drop-drop n i s) in
         record { within = omega (arith, w .within); rest = omega (arith, w .rest, more) }
 
+-- the eight characters from a place on, one by one
+pub eight-here : (s : List ℕ) (i : ℕ) → i + 8 ≤ length s → (l : List ℕ)
+    → l ≡ getD s i 0 ∷ getD s (i + 1) 0 ∷ getD s (i + 2) 0 ∷ getD s (i + 3) 0 ∷ getD s (i + 4) 0 ∷ getD s (i + 5) 0 ∷ getD s (i + 6) 0 ∷ getD s (i + 7) 0 ∷ []
+    → l ≡ take 8 (drop i s)
+eight-here s i h l each =
+    each
+    ∙ sym (ap (take 8) (from-here s i (omega arith)) ∙ on i (next 1 6 (omega arith) ∙ on (i + 1) (next 2 5 (omega arith) ∙ on (i + 2) (next 3 4 (omega arith) ∙ on (i + 3) (next 4 3 (omega arith) ∙ on (i + 4) (next 5 2 (omega arith) ∙ on (i + 5) (next 6 1 (omega arith) ∙ on (i + 6) (next 7 0 (omega arith)))))))))
+  where
+    on : (j : ℕ) {l m : List ℕ} → l ≡ m → getD s j 0 ∷ l ≡ getD s j 0 ∷ m
+    on j e = ap (λ (l : List ℕ). getD s j 0 ∷ l) e
+
+    next : (k n : ℕ) → i + k < length s → take (suc n) (drop (i + k) s) ≡ getD s (i + k) 0 ∷ take n (drop (i + suc k) s)
+    next k n l =
+        let same : suc (i + k) ≡ i + suc k = omega arith in
+        ap (take (suc n)) (drop-cons s (i + k) 0 l) ∙ ap (λ (j : ℕ). getD s (i + k) 0 ∷ take n (drop j s)) same
+
 -- ---- two words compared
 
 module _ (w v : List ℕ) where

@@ -3,12 +3,12 @@ ghost use mathlib.Core.Path.{_≡_};
 ghost use mathlib.Core.Bool.{not};
 ghost use mathlib.Core.List.{_++_, _∷_, []};
 ghost use Prim.Native.Nat.{_+_, _*_, _≤_, _<_, min};
-ghost use lib.ListN.{length, drop};
+ghost use lib.ListN.{length, take, drop};
 ghost use lib.Seq.{sets};
-ghost use Rattle.bits.specs.Eight.{bytes};
 ghost use Rattle.rules.specs.Lists.{passed-over, same as same-list};
 ghost use Rattle.words.specs.Words.{is-lf, is-blank, ends-word, digit as glyph, decimal};
 ghost use Rattle.words.specs.Counted.{most, counted};
+ghost use Rattle.words.specs.Eight.{bytes};
 
 // A number that was read, or none. One beyond the largest that is told apart is told as that one.
 pub struct Counted {
@@ -28,7 +28,7 @@ pub fn line_end(text: &[u8], at: usize) -> usize
     }
     let mut i = at;
     while 8 <= text.len() - i {
-        let k = first_lf(bits::eight(text, i));
+        let k = first_lf(eight(text, i));
         if k < 8 {
             return i + k;
         }
@@ -41,6 +41,37 @@ pub fn line_end(text: &[u8], at: usize) -> usize
         i += 1;
     }
     i
+}
+
+// The eight characters from `at` on as one number.
+fn eight(text: &[u8], at: usize) -> u64
+    requires { ⌜ at + 8 ≤ length (now text) ⌝ }
+    ensures { λ r. ⌜ bytes 8 r ≡ take 8 (drop at (now (text .entry))) ⌝ }
+{
+    joined(
+        text[at],
+        text[at + 1],
+        text[at + 2],
+        text[at + 3],
+        text[at + 4],
+        text[at + 5],
+        text[at + 6],
+        text[at + 7],
+    )
+}
+
+// Eight bytes as one number, the first one lowest. One expression, so that the compiler makes one load of eight reads.
+fn joined(a: u8, b: u8, c: u8, d: u8, e: u8, f: u8, g: u8, h: u8) -> u64
+    ensures { λ r. ⌜ bytes 8 r ≡ a ∷ b ∷ c ∷ d ∷ e ∷ f ∷ g ∷ h ∷ [] ⌝ }
+{
+    a as u64
+        + 0x100 * b as u64
+        + 0x1_0000 * c as u64
+        + 0x100_0000 * d as u64
+        + 0x1_0000_0000 * e as u64
+        + 0x100_0000_0000 * f as u64
+        + 0x1_0000_0000_0000 * g as u64
+        + 0x100_0000_0000_0000 * h as u64
 }
 
 // How many of the eight bytes of x come before the first that is LF; 8 if none is. LF is turned to 0, and any other byte to one

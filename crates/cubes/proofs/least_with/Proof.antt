@@ -1,50 +1,24 @@
--- The walk keeps the least so far.
-use Prim.Native.Nat.{_-_}
-use borrow.Author.Needs.{needs}
+-- No cube is open, or the least number says which pattern, if any.
+use mathlib.Core.Path.{sym}
 use native.Mathlib.Omega.{arith}
-use lib.ListN.{length}
-use Rattle.cubes.proofs.Lists.{LeastWalk, least-starts, least-goes, least-moves, least-passes, least-ends}
+use borrow.Author.Needs.{needs}
+use borrow.Author.Tests.{not-true}
+use Rattle.cubes.specs.Cubes.{pattern-of}
+use Rattle.cubes.proofs.Lists.{number-found, least-none}
 use Rattle.cubes.proofs.least_with.Statement.{statement}
 use Rattle.cubes.proofs.least_with.Tie as tie
 
-abbrev Inv-loop : tie.InvT-loop
-Inv-loop pos neg cubes least₀ at₀ least at = LeastWalk pos neg cubes least at
+returns : tie.Need-returns
+unfolding pattern-of
+returns c = sym (c .before .any-open .ensures (not-true _ (c .if1 .taken)))
 
-abbrev μ-loop : tie.MeasureT-loop
-μ-loop pos neg cubes least₀ at₀ least at = length cubes - at
+returns-2 : tie.Need-returns-2
+unfolding pattern-of
+returns-2 c = number-found _ _ (c .before .least-number .ensures) (c .if2 .taken)
 
-loop-again : tie.Need-loop-again Inv-loop μ-loop
-loop-again c =
-    let t = c .before .before .before .before .before .before in
-    let past = least-passes _ _ _ _ _ (t .before .loop .inv) (t .loop-test .taken) _ (c .before .enum-told .given .1) (c .before .before .before .shares .ensures) in
-    least-moves _ _ _ _ _ past _ (c .past-opposed2 .ensures .0 .1) (c .past-opposed2 .ensures .1)
-
-loop-again-2 : tie.Need-loop-again-2 Inv-loop μ-loop
-loop-again-2 c =
-    let t = c .before .before .before .before .before .before in
-    least-goes _ _ _ _ _ (t .before .loop .inv) (t .loop-test .taken) _ _ (c .before .before .before .shares .ensures) (c .lesser .ensures)
+returns-3 : tie.Need-returns-3
+unfolding pattern-of
+returns-3 c = least-none _ _ _ (omega (arith, c .before .least-number .ensures, c .if2 .left))
 
 pub least-with-spec : {M : Type 1} → statement M
-least-with-spec =
-    tie.close
-    (tie.spec
-    Inv-loop
-    μ-loop
-    (λ c κs. omega arith)
-    (λ c. least-moves _ _ _ _ _ (least-starts _ _ _) _ (c .past-opposed .ensures .0 .1) (c .past-opposed .ensures .1))
-    (λ c. omega arith)
-    (λ c. omega arith)
-    (λ c. omega arith)
-    (λ c. omega arith)
-    (λ c κs. search needs)
-    (λ c. search needs)
-    (λ c. omega arith)
-    (λ c κs. omega arith)
-    (λ c. omega arith)
-    loop-again
-    (λ c. search needs)
-    (λ c κs. search needs)
-    (λ c. omega arith)
-    (λ c. omega arith)
-    loop-again-2
-    (λ c. least-ends _ _ _ _ _ (c .before .loop .inv) (c .loop-test .left)))
+least-with-spec = tie.close (tie.spec (λ c κs. search needs) returns (λ c κs. search needs) (λ c. search needs) returns-2 returns-3)

@@ -2,8 +2,7 @@
 use native.Mathlib.Omega.{arith}
 use lib.Bits.{bitXor, and-le-r}
 use lib.Count.{trailing-le}
-use Rattle.bits.proofs.Lanes.{repeated}
-use Rattle.words.proofs.Marks.{marks, first-mark}
+use Rattle.words.proofs.Marks.{marks, repeated, first-mark}
 use Rattle.words.proofs.first_lf.Statement.{statement}
 use Rattle.words.proofs.first_lf.Tie as tie
 

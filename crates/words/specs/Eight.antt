@@ -1,4 +1,4 @@
--- The bytes of a number, the lowest first: how bytes that are read at once stand in one number.
+-- The bytes of a number, the lowest first: how characters that are read at once stand in one number.
 use Prim.Native.Nat.{ℕ, zero, suc, _/_, _%_}
 use mathlib.Core.List.{List, [], _∷_}
 
