@@ -8,7 +8,7 @@ use Rattle.bits.specs.Bits.{or-zero}
 use Rattle.bits.proofs.Smallest.{found-any, none-any}
 use Rattle.cubes.specs.declared.Shared.{Shared}
 use Rattle.cubes.specs.declared.Shared.the-variants.{Nowhere, At}
-use Rattle.cubes.specs.Cubes.{pattern-of}
+use Rattle.cubes.specs.Values.{pattern-of}
 use Rattle.answers.specs.Answers.{fault-at, sound}
 use Rattle.records.specs.Records.{inputs}
 use Rattle.wirings.specs.Wirings.{read-at, disagree-at, agrees, disagreement}

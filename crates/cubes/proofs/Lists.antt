@@ -16,7 +16,8 @@ use Rattle.bits.proofs.Smallest.{Means, smallest-means, found-any, none-any, sm
 use Rattle.bits.specs.Bits.{any, smallest, lesser}
 use Rattle.cubes.specs.declared.Shared.{Shared}
 use Rattle.cubes.specs.declared.Shared.the-variants.{Nowhere, At}
-use Rattle.cubes.specs.Cubes.{cube-holds, cubes-share, least-shared, some-cube, some-holds, least-with, pattern-of, number-of}
+use Rattle.cubes.specs.Cubes.{cube-holds, cubes-share, least-shared, some-cube, some-holds, least-with}
+use Rattle.cubes.specs.Values.{pattern-of, number-of}
 
 -- what remains at a place with a whole cube: the cube, and what comes after it
 pub cube-there : (l : List ℕ) (at : ℕ) → at + 1 < length l → drop at l ≡ getD l at 0 ∷ getD l (at + 1) 0 ∷ drop (at + 2) l

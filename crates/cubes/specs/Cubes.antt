@@ -4,11 +4,9 @@
 use Prim.Native.Nat.{ℕ, _+_, _^_}
 use mathlib.Core.Bool.{Bool, false, not, _&&_, _||_}
 use mathlib.Core.List.{List, [], _∷_}
-use mathlib.Core.Option.{Option, none, some}
+use mathlib.Core.Option.{Option}
 use lib.Dec.{leb}
 use Rattle.bits.specs.Bits.{bit, has, every, any, count, smallest}
-use Rattle.cubes.specs.declared.Shared.{Shared}
-use Rattle.cubes.specs.declared.Shared.the-variants.{Nowhere, At}
 
 -- input i of pattern x is as the cube P, N asks: 1 if it is in P, 0 if it is in N
 abbrev pub meets : ℕ → ℕ → ℕ → ℕ → Bool
@@ -43,16 +41,6 @@ some-holds cubes x = some-cube (λ P N. cube-holds P N x) cubes
 -- the smallest pattern of n inputs that the cube shares with any cube of the list
 unfoldable pub least-with : ℕ → ℕ → ℕ → List ℕ → Option ℕ
 least-with n P N cubes = smallest (2 ^ n) (λ x. cube-holds P N x && some-holds cubes x)
-
--- what the code's answer says: no pattern, or this one
-unfoldable pub pattern-of : Shared → Option ℕ
-pattern-of Nowhere = none
-pattern-of (At x) = some x
-
--- a pattern as a number, 256 for none: the code compares these
-unfoldable pub number-of : Option ℕ → ℕ
-number-of none = 256
-number-of (some x) = x
 
 -- a function with these two lists is open at x: neither on nor off
 abbrev pub open-at : List ℕ → List ℕ → ℕ → Bool

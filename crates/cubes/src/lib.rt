@@ -6,7 +6,8 @@ ghost use mathlib.Core.Option.{none};
 ghost use Prim.Native.Nat.{ℕ, _+_, _*_, _/_, _%_, _≤_, _<_};
 ghost use lib.ListN.{length, getD};
 ghost use Rattle.bits.specs.Bits.{has, lesser};
-ghost use Rattle.cubes.specs.Cubes.{cube-names, cubes-share, least-shared, some-cube, some-holds, least-with, pattern-of, number-of, patterns-held, inputs-used};
+ghost use Rattle.cubes.specs.Cubes.{cube-names, cubes-share, least-shared, some-cube, some-holds, least-with, patterns-held, inputs-used};
+ghost use Rattle.cubes.specs.Values.{pattern-of, number-of};
 
 // The smallest pattern that is shared, or none.
 pub enum Shared {

@@ -14,7 +14,8 @@ use Rattle.bits.proofs.Bit.{bits-le}
 use Rattle.bits.proofs.Below.{any-same, any-never}
 use Rattle.bits.proofs.Smallest.{Means, smallest-means, smallest-none, smallest-same, smallest-or, smallest-narrow, lesser-none, lesser-assoc}
 use Rattle.cubes.specs.declared.Shared.{Shared}
-use Rattle.cubes.specs.Cubes.{cube-holds, some-holds, least-with, pattern-of}
+use Rattle.cubes.specs.Cubes.{cube-holds, some-holds, least-with}
+use Rattle.cubes.specs.Values.{pattern-of}
 use Rattle.cubes.proofs.Masks.{holds-at, holds-low}
 use Rattle.cubes.proofs.Lists.{each-map, some-same, some-step, some-end}
 use Rattle.rules.specs.Rules.{follows}

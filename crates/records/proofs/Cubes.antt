@@ -10,7 +10,8 @@ use lib.ListN.{length, getD, take, drop}
 use lib.Seq.{take-add, drop-at, drop-drop, getD-drop, length-take-le}
 use Rattle.bits.specs.Bits.{any, or-zero}
 use Rattle.bits.proofs.Smallest.{found-any, none-any, smallest-narrow}
-use Rattle.cubes.specs.Cubes.{cube-holds, cubes-share, some-cube, some-holds, least-with, pattern-of}
+use Rattle.cubes.specs.Cubes.{cube-holds, cubes-share, some-cube, some-holds, least-with}
+use Rattle.cubes.specs.Values.{pattern-of}
 use Rattle.cubes.specs.declared.Shared.{Shared}
 use Rattle.cubes.specs.declared.Shared.the-variants.{Nowhere, At}
 use Rattle.cubes.proofs.Masks.{share-masks, holds-low}

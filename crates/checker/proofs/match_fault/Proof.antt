@@ -12,7 +12,7 @@ use Rattle.rules.proofs.Cut.{Reached}
 use Rattle.records.specs.Records.{inputs}
 use Rattle.wirings.specs.Wirings.{straight, disagreement}
 use Rattle.records.proofs.Frame.{few-inputs, framed-both}
-use Rattle.cubes.specs.Cubes.{pattern-of}
+use Rattle.cubes.specs.Values.{pattern-of}
 use Rattle.partial.specs.declared.Wiring.{Wiring}
 use Rattle.partial.specs.Partial.{StandsFor, partial}
 use Rattle.partial.proofs.Standing.{stands-n, stands-prefix, stands-formed}

@@ -5,7 +5,7 @@ use mathlib.Core.Logic.{⊎-elim}
 use native.Mathlib.Omega.{arith}
 use borrow.Author.Needs.{needs}
 use lib.ListN.{length}
-use Rattle.cubes.specs.Cubes.{number-of}
+use Rattle.cubes.specs.Values.{number-of}
 use Rattle.cubes.proofs.Masks.{least-apart}
 use Rattle.cubes.proofs.Lists.{LeastWalk, least-starts, least-goes, least-ends}
 use Rattle.cubes.proofs.least_number.Statement.{statement}

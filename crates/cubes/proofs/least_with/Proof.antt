@@ -3,7 +3,7 @@ use mathlib.Core.Path.{sym}
 use native.Mathlib.Omega.{arith}
 use borrow.Author.Needs.{needs}
 use borrow.Author.Tests.{not-true}
-use Rattle.cubes.specs.Cubes.{pattern-of}
+use Rattle.cubes.specs.Values.{pattern-of}
 use Rattle.cubes.proofs.Lists.{number-found, least-none}
 use Rattle.cubes.proofs.least_with.Statement.{statement}
 use Rattle.cubes.proofs.least_with.Tie as tie

@@ -5,7 +5,7 @@ use native.Mathlib.Omega.{arith}
 use borrow.Author.Needs.{needs}
 use Rattle.bits.specs.Bits.{lesser}
 use Rattle.cubes.specs.declared.Shared.{Shared}
-use Rattle.cubes.specs.Cubes.{pattern-of}
+use Rattle.cubes.specs.Values.{pattern-of}
 use Rattle.cubes.proofs.lesser.Statement.{statement}
 use Rattle.cubes.proofs.lesser.Tie as tie
 

@@ -5,7 +5,7 @@ use mathlib.Core.Option.{some, none}
 use Prim.Native.Nat.{_%_}
 use borrow.Author.Tests.{eq-eqb, ne-eqb}
 use lib.Bits.{bitOr}
-use Rattle.cubes.specs.Cubes.{number-of}
+use Rattle.cubes.specs.Values.{number-of}
 use Rattle.cubes.proofs.Masks.{least-joined}
 use Rattle.cubes.proofs.shared_number.Statement.{statement}
 use Rattle.cubes.proofs.shared_number.Tie as tie

@@ -4,7 +4,7 @@ use mathlib.Core.Bool.{Bool, cond}
 use mathlib.Core.Option.{some, none}
 use borrow.Author.Tests.{eq-eqb, ne-eqb}
 use lib.Bits.{bitOr}
-use Rattle.cubes.specs.Cubes.{pattern-of}
+use Rattle.cubes.specs.Values.{pattern-of}
 use Rattle.cubes.proofs.Masks.{least-masks}
 use Rattle.cubes.proofs.shares.Statement.{statement}
 use Rattle.cubes.proofs.shares.Tie as tie

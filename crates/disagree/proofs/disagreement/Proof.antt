@@ -11,7 +11,7 @@ use Rattle.rules.specs.Rules.{follows}
 use Rattle.records.proofs.Frame.{framed-both}
 use Rattle.wirings.specs.Wirings.{straight}
 use Rattle.wirings.specs.Pairs.{side, against}
-use Rattle.cubes.specs.Cubes.{pattern-of}
+use Rattle.cubes.specs.Values.{pattern-of}
 use Rattle.partial.specs.declared.Wiring.{Wiring}
 use Rattle.partial.specs.Partial.{Formed, partial, prefix}
 use Rattle.disagree.specs.Meeting.{meeting}

@@ -3,7 +3,8 @@ use mathlib.Core.Path.{sym, ap, ap₂, _∙_}
 use borrow.Author.Needs.{needs}
 use Rattle.bits.specs.Bits.{lesser}
 use Rattle.cubes.specs.declared.Shared.{Shared}
-use Rattle.cubes.specs.Cubes.{least-with, pattern-of}
+use Rattle.cubes.specs.Cubes.{least-with}
+use Rattle.cubes.specs.Values.{pattern-of}
 use Rattle.disagree.proofs.Lists.{lesser-stays}
 use Rattle.disagree.proofs.lesser_with.Statement.{statement}
 use Rattle.disagree.proofs.lesser_with.Tie as tie

@@ -5,7 +5,8 @@ use borrow.Author.Needs.{needs}
 use native.Mathlib.Omega.{arith}
 use lib.ListN.{length}
 use Rattle.bits.specs.Bits.{lesser}
-use Rattle.cubes.specs.Cubes.{least-with, pattern-of}
+use Rattle.cubes.specs.Cubes.{least-with}
+use Rattle.cubes.specs.Values.{pattern-of}
 use Rattle.partial.specs.declared.Carried.{Carried}
 use Rattle.partial.specs.Partial.{prefix, carried}
 use Rattle.disagree.proofs.Lists.{MeetingWalk, meeting-starts, meeting-goes, meeting-ends}
