@@ -37,11 +37,12 @@ unfoldable pub count : ℕ → (ℕ → Bool) → ℕ
 count zero p = 0
 count (suc n) p = count n p + cond (p n) 1 0
 
--- the smallest number below n at which it passes, if there is one: that below a lower bound, or else the next number itself
+-- what was found, or else the next
 unfoldable pub or-next : Option ℕ → Option ℕ → Option ℕ
 or-next none next = next
 or-next (some x) next = some x
 
+-- the smallest number below n at which it passes, if there is one: each is looked at, upward
 unfoldable pub smallest : ℕ → (ℕ → Bool) → Option ℕ
 smallest zero p = none
 smallest (suc n) p = or-next (smallest n p) (cond (p n) (some n) none)
