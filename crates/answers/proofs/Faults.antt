@@ -190,7 +190,7 @@ plain code a b = (eqb-false code 7 a, eqb-false code 14 b)
 abbrev pub Kept : ℕ → ℕ → Type 0
 Kept code pattern = Plain code → pattern ≡ 0
 
-abbrev KeptBy : Answer → Type 0
+abbrev pub KeptBy : Answer → Type 0
 KeptBy a = Kept (a .code) (a .pattern)
 
 pub by-kept : (who : ℕ) (f : Fault) (next : Answer) → Kept (f .code) (f .pattern) → KeptBy next → KeptBy (by who f next)
@@ -204,3 +204,17 @@ or-else-kept a b this later = cond-cases KeptBy (eqb (a .code) 0) b a later this
 pub fits-kept : (kind room needed : ℕ) → KeptBy (fits kind room needed)
 unfolding fits
 fits-kept kind room needed = cond-cases KeptBy (ltb room needed) _ _ (λ _. refl) (λ _. refl)
+
+-- what holds of each fault without a pattern holds of a byte's and of the length's
+module _ (Q : Fault → Type 0) (else-plain : (code place : ℕ) → Plain code → Q (fault code place)) where
+  pub none-plain : (place : ℕ) → Q (fault 0 place)
+  none-plain place = else-plain 0 place (plain 0 refl refl)
+
+  pub short-plain : (place : ℕ) → Q (fault 1 place)
+  short-plain place = else-plain 1 place (plain 1 refl refl)
+
+  pub byte-plain : (s : List ℕ) (k low high code : ℕ) → Plain code → Q (byte-fault s k low high code)
+  byte-plain s k low high code p = byte-cases Q s k low high code (none-plain 0) (λ _. short-plain _) (else-plain code k p)
+
+  pub length-plain : (len end : ℕ) → Q (length-fault len end)
+  length-plain len end = length-cases Q len end (none-plain 0) (λ _. short-plain len) (else-plain 8 end (plain 8 refl refl))

@@ -12,8 +12,8 @@ use Rattle.bits.proofs.Tests.{cond-cases}
 use Rattle.bits.proofs.Smallest.{smallest-some}
 use Rattle.answers.specs.declared.Answer.{Answer}
 use Rattle.answers.specs.declared.Fault.{Fault}
-use Rattle.answers.specs.Answers.{fault, fault-at, sound, is-sound, byte-fault, length-fault, by, _or-else_}
-use Rattle.answers.proofs.Faults.{Plain, plain, Kept, by-kept, or-else-kept, then-cases, present-cases, byte-cases, length-cases}
+use Rattle.answers.specs.Answers.{fault, fault-at, sound, is-sound, byte-fault, by, _or-else_}
+use Rattle.answers.proofs.Faults.{Plain, plain, Kept, KeptBy, by-kept, or-else-kept, then-cases, present-cases, none-plain, short-plain, byte-plain, length-plain}
 use Rattle.rules.specs.Rules.{Rule, _adding_, next}
 use Rattle.records.specs.Records.{inputs, both-read}
 use Rattle.records.proofs.Patterns.{EitherNamed, both-named, both-not-fourteen, both-kept}
@@ -23,17 +23,14 @@ use Rattle.checker.specs.Checking.{header-fault, choice-code, choices-fa
 use Rattle.checker.proofs.Closings.{named-dead}
 
 module _ (Q : Fault → Type 0) (else-plain : (code place : ℕ) → Plain code → Q (fault code place)) where
-  good : (place : ℕ) → Q (fault 0 place)
-  good place = else-plain 0 place (plain 0 refl refl)
+  abbrev good : (place : ℕ) → Q (fault 0 place)
+  good = none-plain Q else-plain
 
-  short : (place : ℕ) → Q (fault 1 place)
-  short place = else-plain 1 place (plain 1 refl refl)
+  abbrev short : (place : ℕ) → Q (fault 1 place)
+  short = short-plain Q else-plain
 
-  byte-plain : (s : List ℕ) (k low high code : ℕ) → Plain code → Q (byte-fault s k low high code)
-  byte-plain s k low high code p = byte-cases Q s k low high code (good 0) (λ _. short _) (else-plain code k p)
-
-  length-plain : (len end : ℕ) → Q (length-fault len end)
-  length-plain len end = length-cases Q len end (good 0) (λ _. short len) (else-plain 8 end (plain 8 refl refl))
+  abbrev byte : (s : List ℕ) (k low high code : ℕ) → Plain code → Q (byte-fault s k low high code)
+  byte = byte-plain Q else-plain
 
   -- ---- a tree, over any rule and any reading of a closing
 
@@ -59,7 +56,7 @@ module _ (Q : Fault → Type 0) (else-plain : (code place : ℕ) → Plain code 
 
   header-plain : (c : List ℕ) (mark n : ℕ) → Q (header-fault c mark n)
   unfolding header-fault
-  header-plain c mark n = then-cases Q _ _ (byte-plain c 1 mark mark 2 (plain 2 refl refl)) (byte-plain c 2 n n 10 (plain 10 refl refl))
+  header-plain c mark n = then-cases Q _ _ (byte c 1 mark mark 2 (plain 2 refl refl)) (byte c 2 n n 10 (plain 10 refl refl))
 
   choices-plain : (n : ℕ) (w rest : List ℕ) (at : ℕ) → Q (choices-fault n w rest at)
   unfolding choices-fault choice-code
@@ -77,7 +74,7 @@ module _ (Q : Fault → Type 0) (else-plain : (code place : ℕ) → Plain code 
   closing-plain n q f g c w at =
       then-cases Q _ _
       (then-cases Q _ _
-      (then-cases Q _ _ (then-cases Q _ _ (byte-plain c at 0 1 15 (plain 15 refl refl)) (index-plain c (at + 1) _)) (index-plain c (at + 2) _))
+      (then-cases Q _ _ (then-cases Q _ _ (byte c at 0 1 15 (plain 15 refl refl)) (index-plain c (at + 1) _)) (index-plain c (at + 2) _))
       (cond-cases Q (named-dead n q f g c w at) _ _ (good 0) (else-plain 17 at (plain 17 refl refl))))
       (good (at + 3))
 
@@ -85,7 +82,7 @@ module _ (Q : Fault → Type 0) (else-plain : (code place : ℕ) → Plain code 
   unfolding refusal-fault tree-fault
   refusal-plain f g c =
       then-cases Q _ _ (header-plain c 0x46 (inputs g))
-      (onward-plain _ _ (onward-plain _ _ (onward-plain _ _ (good 3) (tree 0)) (tree 1)) (length-plain (length c)))
+      (onward-plain _ _ (onward-plain _ _ (onward-plain _ _ (good 3) (tree 0)) (tree 1)) (length-plain Q else-plain (length c)))
     where
       tree : (q at : ℕ) → Q (tree-fault (inputs g) q f g c [] at)
       tree q at = tree-plain (straight (inputs g)) (closing-fault (inputs g) q f g c) c (closing-plain (inputs g) q f g c) _ [] at
@@ -97,7 +94,7 @@ module _ (Q : Fault → Type 0) (else-plain : (code place : ℕ) → Plain code 
       (cond-cases Q (eqb (getD c 0 0) 0x4D) _ _
       (then-cases Q _ _
       (then-cases Q _ _
-      (then-cases Q _ _ (then-cases Q _ _ (header-plain c 0x54 (inputs g)) (length-plain (length c) (4 + inputs g))) (byte-plain c 3 0 1 11 (plain 11 refl refl)))
+      (then-cases Q _ _ (then-cases Q _ _ (header-plain c 0x54 (inputs g)) (length-plain Q else-plain (length c) (4 + inputs g))) (byte c 3 0 1 11 (plain 11 refl refl)))
       (choices-plain (inputs g) [] (drop 4 c) 4))
       agreement)
       (cond-cases Q (eqb (getD c 0 0) 0x52) _ _ (refusal-plain f g c) (else-plain 2 0 (plain 2 refl refl))))
@@ -158,6 +155,6 @@ checking-disagreement f g c =
     Named : Answer → Type 0
     Named a = a .code ≡ 14 → (a .«record» ≡ 3) × Disagreement f g c (a .pattern)
 
-pub checking-kept : (f g c : List ℕ) → Kept (checking f g c .code) (checking f g c .pattern)
+pub checking-kept : (f g c : List ℕ) → KeptBy (checking f g c)
 unfolding checking
 checking-kept f g c = or-else-kept (both-read f g) _ (both-kept f g) (by-kept 3 (claim-fault f g c) _ (claim-kept f g c) (λ _. refl))

@@ -65,7 +65,7 @@ Each Q (P ∷ []) = Unit {0}
 Each Q (P ∷ N ∷ rest) = Q P N × Each Q rest
 
 -- 2 * k, two at a time
-unfoldable twice : ℕ → ℕ
+twice : ℕ → ℕ
 twice zero = zero
 twice (suc k) = suc (suc (twice k))
 

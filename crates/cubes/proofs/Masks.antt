@@ -168,22 +168,18 @@ least-apart P N P′ N′ own other p p′ e e′ =
 
 -- ---- a cube of n inputs looks at no others
 
+-- so what it holds it holds with any other values of the others
+holds-alike : (n P N : ℕ) → P < 2 ^ n → N < 2 ^ n → (x y : ℕ) → ((i : ℕ) → i < n → bit i x ≡ bit i y) → cube-holds P N x ≡ true → cube-holds P N y ≡ true
+holds-alike n P N p m x y same e =
+    holds-if P N y (λ i h.
+    let o = holds-at P N x e i h in
+    ⊎-elim
+    (λ (l : i < n). record { ones = omega (arith, o .ones, same i l); zeros = omega (arith, o .zeros, same i l) })
+    (λ (l : n ≤ i). record { ones = omega (arith, bit-above i n p l); zeros = omega (arith, bit-above i n m l, bit-le i y) })
+    (below-or-not i n))
+
 pub holds-low : (n P N : ℕ) → P < 2 ^ n → N < 2 ^ n → (x : ℕ) → cube-holds P N x ≡ cube-holds P N (x % 2 ^ n)
 holds-low n P N p m x =
     same-test (cube-holds P N x) (cube-holds P N (x % 2 ^ n))
-    (λ e. holds-if P N (x % 2 ^ n) (λ i h. let o = holds-at P N x e i h in at-input i (o .ones) (o .zeros)))
-    (λ e. holds-if P N x (λ i h. let o = holds-at P N (x % 2 ^ n) e i h in back i (o .ones) (o .zeros)))
-  where
-    at-input : (i : ℕ) → bit i P ≤ bit i x → bit i N + bit i x ≤ 1 → Meets P N (x % 2 ^ n) i
-    at-input i a b =
-        ⊎-elim
-        (λ (l : i < n). record { ones = omega (arith, a, bit-mod i n x l); zeros = omega (arith, b, bit-mod i n x l) })
-        (λ (l : n ≤ i). record { ones = omega (arith, bit-above i n p l); zeros = omega (arith, bit-above i n m l, bit-le i (x % 2 ^ n)) })
-        (below-or-not i n)
-
-    back : (i : ℕ) → bit i P ≤ bit i (x % 2 ^ n) → bit i N + bit i (x % 2 ^ n) ≤ 1 → Meets P N x i
-    back i a b =
-        ⊎-elim
-        (λ (l : i < n). record { ones = omega (arith, a, bit-mod i n x l); zeros = omega (arith, b, bit-mod i n x l) })
-        (λ (l : n ≤ i). record { ones = omega (arith, bit-above i n p l); zeros = omega (arith, bit-above i n m l, bit-le i x) })
-        (below-or-not i n)
+    (holds-alike n P N p m x (x % 2 ^ n) (λ i l. sym (bit-mod i n x l)))
+    (holds-alike n P N p m (x % 2 ^ n) x (λ i l. bit-mod i n x l))

@@ -12,7 +12,7 @@ use Rattle.bits.specs.Bits.{IsSmallest}
 use Rattle.bits.proofs.Tests.{cond-cases}
 use Rattle.answers.specs.declared.Answer.{Answer}
 use Rattle.answers.specs.Answers.{_or-else_, fits, told}
-use Rattle.answers.proofs.Faults.{Kept, or-else-kept, fits-kept}
+use Rattle.answers.proofs.Faults.{KeptBy, or-else-kept, fits-kept}
 use Rattle.records.specs.Records.{inputs, both-read}
 use Rattle.records.proofs.Patterns.{ClashNamed, RecordNamed, EitherNamed, reading-named, summing-named, both-named, reading-kept, summing-kept, both-kept}
 use Rattle.writer.specs.Writing.{writing}
@@ -39,10 +39,6 @@ use Rattle.host.proofs.zap_write.Kinds as zap-write-kinds
 use Rattle.host.proofs.zap_write.Reads as zap-write
 use Rattle.host.proofs.zap_read_table.Kinds as zap-read-table-kinds
 use Rattle.host.proofs.zap_read_table.Reads as zap-read-table
-
--- what an answer tells, of any answer equal to it
-abbrev KeptBy : Answer → Type 0
-KeptBy a = Kept (a .code) (a .pattern)
 
 -- ---- the reader and the summary
 

@@ -78,23 +78,25 @@ clash-width n small on off at c d = first-same _ _ _ _ on at (each-map _ _ (λ P
 
 -- ---- what was found for an on cube: code 7 with the pattern, or no code
 
+-- the cube and the off list meet at x
+abbrev pub met : List ℕ → ℕ → ℕ → ℕ → Bool
+met off P N x = cube-holds P N x && some-holds off x
+
+-- whether they do anywhere decides the code
+pub code-met : (n : ℕ) (off : List ℕ) (P N : ℕ) (t : Bool) → any (2 ^ n) (met off P N) ≡ t → clash-code n off P N ≡ cond t 7 0
+unfolding clash-code cubes-share
+code-met n off P N t e = ap {B = ℕ} (λ (t : Bool). cond t 7 0) (cube-meets (2 ^ n) (λ x. x) P N off ∙ e)
+
 module _ (n : ℕ) (off : List ℕ) (P N : ℕ) (r : Shared) (e : pattern-of r ≡ least-with n P N off) where
-  abbrev met : ℕ → Bool
-  met x = cube-holds P N x && some-holds off x
-
-  meets : some-cube (cubes-share n P N) off ≡ any (2 ^ n) met
-  unfolding cubes-share
-  meets = cube-meets (2 ^ n) (λ x. x) P N off
-
   pub clash-at : (x : ℕ) → r ≡ At x → (clash-code n off P N ≡ 7) × (clash-pattern n off P N ≡ x)
-  unfolding clash-code clash-pattern least-with pattern-of or-zero
+  unfolding clash-pattern least-with pattern-of or-zero
   clash-at x h =
       let found = sym e ∙ ap pattern-of h in
-      (ap {B = ℕ} (λ (t : Bool). cond t 7 0) (meets ∙ found-any met (2 ^ n) x found), ap or-zero found)
+      (code-met n off P N true (found-any (met off P N) (2 ^ n) x found), ap or-zero found)
 
   pub clash-nowhere : r ≡ Nowhere → clash-code n off P N ≡ 0
-  unfolding clash-code least-with pattern-of
-  clash-nowhere h = ap (λ (t : Bool). cond t 7 0) (meets ∙ none-any met (2 ^ n) (sym e ∙ ap pattern-of h))
+  unfolding least-with pattern-of
+  clash-nowhere h = code-met n off P N false (none-any (met off P N) (2 ^ n) (sym e ∙ ap pattern-of h))
 
 -- ---- the two lists of a record: what holds of each of its cubes holds of each cube of either list
 

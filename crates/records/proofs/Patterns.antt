@@ -13,15 +13,14 @@ use Rattle.bits.specs.Bits.{any, IsSmallest}
 use Rattle.bits.proofs.Tests.{cond-cases}
 use Rattle.bits.proofs.Smallest.{smallest-some}
 use Rattle.cubes.specs.Cubes.{cube-holds, cubes-share, some-cube, some-holds, least-with}
-use Rattle.cubes.proofs.Lists.{cube-meets}
 use Rattle.answers.specs.declared.Answer.{Answer}
 use Rattle.answers.specs.declared.Fault.{Fault}
 use Rattle.answers.specs.Answers.{fault, fault-at, fine, refused, by, byte-fault}
-use Rattle.answers.proofs.Faults.{Plain, plain, Kept, by-kept, then-cases, byte-cases, length-cases}
+use Rattle.answers.proofs.Faults.{Plain, plain, Kept, KeptBy, by-kept, then-cases, none-plain, byte-plain, length-plain}
 use Rattle.records.specs.declared.Reading.{Reading}
 use Rattle.records.specs.declared.Figures.{Figures}
 use Rattle.records.specs.Records.{inputs, cubes-at, on-list, off-list, clash-code, clash-pattern, first-fault, header-fault, clash-fault, record-fault, both-read, reading, summing}
-use Rattle.records.proofs.Cubes.{first-each, each-first}
+use Rattle.records.proofs.Cubes.{first-each, each-first, met, code-met}
 use Rattle.records.proofs.Places.{bytes-cases, first-cases, first-codes, cube-codes, record-cases}
 
 -- ---- the cube that a walk names
@@ -89,23 +88,16 @@ pub record ClashNamed (n : ℕ) (on off : List ℕ) (at place pattern : ℕ) : T
 
 -- the code of an on cube tells whether it shares one
 module _ (n : ℕ) (off : List ℕ) (P N : ℕ) where
-  abbrev met : ℕ → Bool
-  met x = cube-holds P N x && some-holds off x
+  by-code : (t : Bool) → any (2 ^ n) (met off P N) ≡ t → ((clash-code n off P N ≡ 0 → ⊥) → t ≡ true) × (clash-code n off P N ≡ 0 → t ≡ false)
+  by-code true e = (λ _. refl, λ z. absurd (eqb-false 7 0 refl (sym (code-met n off P N _ e) ∙ z)))
+  by-code false e = (λ bad. absurd (bad (code-met n off P N _ e)), λ _. refl)
 
-  code-met : clash-code n off P N ≡ cond (any (2 ^ n) met) 7 0
-  unfolding clash-code cubes-share
-  code-met = ap {B = ℕ} (λ (t : Bool). cond t 7 0) (cube-meets (2 ^ n) (λ x. x) P N off)
-
-  by-code : (t : Bool) → any (2 ^ n) met ≡ t → ((clash-code n off P N ≡ 0 → ⊥) → t ≡ true) × (clash-code n off P N ≡ 0 → t ≡ false)
-  by-code true e = (λ _. refl, λ z. absurd (eqb-false 7 0 refl (sym (code-met ∙ ap {B = ℕ} (λ (t : Bool). cond t 7 0) e) ∙ z)))
-  by-code false e = (λ bad. absurd (bad (code-met ∙ ap {B = ℕ} (λ (t : Bool). cond t 7 0) e)), λ _. refl)
-
-  met-at : (clash-code n off P N ≡ 0 → ⊥) → IsSmallest (2 ^ n) met (clash-pattern n off P N)
+  met-at : (clash-code n off P N ≡ 0 → ⊥) → IsSmallest (2 ^ n) (met off P N) (clash-pattern n off P N)
   unfolding clash-pattern least-with
-  met-at bad = smallest-some met (2 ^ n) (by-code (any (2 ^ n) met) refl .0 bad)
+  met-at bad = smallest-some (met off P N) (2 ^ n) (by-code (any (2 ^ n) (met off P N)) refl .0 bad)
 
-  met-nowhere : clash-code n off P N ≡ 0 → any (2 ^ n) met ≡ false
-  met-nowhere z = by-code (any (2 ^ n) met) refl .1 z
+  met-nowhere : clash-code n off P N ≡ 0 → any (2 ^ n) (met off P N) ≡ false
+  met-nowhere z = by-code (any (2 ^ n) (met off P N)) refl .1 z
 
 -- a clash has code 7
 seven-or-none : (n : ℕ) (off : List ℕ) (P N : ℕ) → (clash-code n off P N ≡ 0 → ⊥) → clash-code n off P N ≡ 7
@@ -139,12 +131,12 @@ module _ (Q : Fault → Type 0) (else-plain : (code place : ℕ) → Plain code 
       record-cases Q s
       (then-cases Q _ _
       (bytes-cases Q s (byte 0 0x46 0x46 2 (plain 2 refl refl)) (byte 1 0x4E 0x4E 2 (plain 2 refl refl)) (byte 2 1 8 3 (plain 3 refl refl)) (byte 3 0 64 4 (plain 4 refl refl)) (byte 4 0 64 4 (plain 4 refl refl)))
-      (length-cases Q (length s) _ (else-plain 0 0 (plain 0 refl refl)) (λ _. else-plain 1 _ (plain 1 refl refl)) (else-plain 8 _ (plain 8 refl refl))))
-      (λ _. first-cases Q (else-plain 0 0 (plain 0 refl refl)) _ _ _ _ (λ P N k _. else-plain _ k (cube-codes Plain (plain 0 refl refl) _ P N (plain 5 refl refl) (plain 6 refl refl))))
+      (length-plain Q else-plain (length s) _))
+      (λ _. first-cases Q (none-plain Q else-plain 0) _ _ _ _ (λ P N k _. else-plain _ k (cube-codes Plain (plain 0 refl refl) _ P N (plain 5 refl refl) (plain 6 refl refl))))
       (λ _. clash)
     where
       byte : (k low high code : ℕ) → Plain code → Q (byte-fault s k low high code)
-      byte k low high code p = byte-cases Q s k low high code (else-plain 0 0 (plain 0 refl refl)) (λ _. else-plain 1 _ (plain 1 refl refl)) (else-plain code k p)
+      byte = byte-plain Q else-plain s
 
 -- code 7 of a record names an on cube of it and its pattern
 abbrev pub RecordNamed : List ℕ → ℕ → ℕ → Type 0
@@ -220,15 +212,15 @@ both-not-fourteen f g =
     Not : Answer → Type 0
     Not a = a .code ≡ 14 → ⊥
 
-pub reading-kept : (s : List ℕ) → Kept (reading s .answer .code) (reading s .answer .pattern)
+pub reading-kept : (s : List ℕ) → KeptBy (reading s .answer)
 unfolding reading
-reading-kept s = cond-cases (λ (r : Reading). Kept (r .answer .code) (r .answer .pattern)) (eqb (record-fault s .code) 0) _ _ (λ _. refl) (record-kept s)
+reading-kept s = cond-cases (λ (r : Reading). KeptBy (r .answer)) (eqb (record-fault s .code) 0) _ _ (λ _. refl) (record-kept s)
 
-pub summing-kept : (s : List ℕ) → Kept (summing s .answer .code) (summing s .answer .pattern)
+pub summing-kept : (s : List ℕ) → KeptBy (summing s .answer)
 unfolding summing
-summing-kept s = cond-cases (λ (r : Figures). Kept (r .answer .code) (r .answer .pattern)) (eqb (record-fault s .code) 0) _ _ (λ _. refl) (record-kept s)
+summing-kept s = cond-cases (λ (r : Figures). KeptBy (r .answer)) (eqb (record-fault s .code) 0) _ _ (λ _. refl) (record-kept s)
 
-pub both-kept : (f g : List ℕ) → Kept (both-read f g .code) (both-read f g .pattern)
+pub both-kept : (f g : List ℕ) → KeptBy (both-read f g)
 unfolding both-read
 both-kept f g =
-    by-kept 1 _ _ (record-kept f) (by-kept 2 _ _ (record-kept g) (cond-cases (λ (a : Answer). Kept (a .code) (a .pattern)) (eqb (inputs f) (inputs g)) fine (refused 9 2 2) (λ _. refl) (λ _. refl)))
+    by-kept 1 _ _ (record-kept f) (by-kept 2 _ _ (record-kept g) (cond-cases KeptBy (eqb (inputs f) (inputs g)) fine (refused 9 2 2) (λ _. refl) (λ _. refl)))

@@ -10,7 +10,7 @@ use lib.ListN.{length}
 use Rattle.answers.specs.declared.Answer.{Answer}
 use Rattle.answers.specs.declared.Fault.{Fault}
 use Rattle.answers.specs.Answers.{by, fits}
-use Rattle.answers.proofs.Faults.{Kept, chosen-elim, by-kept, fits-kept}
+use Rattle.answers.proofs.Faults.{Kept, KeptBy, chosen-elim, by-kept, fits-kept}
 use Rattle.bits.proofs.Tests.{cond-cases}
 use Rattle.records.specs.Records.{record-fault}
 use Rattle.records.proofs.Patterns.{RecordNamed, record-named, record-kept}
@@ -49,10 +49,10 @@ table-reading-named text room =
     (λ bad e. absurd (false≢true (ap of-lines (sym e) ∙ fault-codes text bad)))
     (λ _. by-record (record-of text) room (length (record-of text)))
 
-pub table-reading-kept : (text : List ℕ) (room : ℕ) → Kept (table-reading text room .code) (table-reading text room .pattern)
+pub table-reading-kept : (text : List ℕ) (room : ℕ) → KeptBy (table-reading text room)
 unfolding table-reading
 table-reading-kept text room = by-kept 1 _ _ (line-kept text) (by-kept 1 _ _ (record-kept (record-of text)) (fits-kept 3 room (length (record-of text))))
 
-pub table-writing-kept : (s : List ℕ) (room : ℕ) → Kept (table-writing s room .code) (table-writing s room .pattern)
+pub table-writing-kept : (s : List ℕ) (room : ℕ) → KeptBy (table-writing s room)
 unfolding table-writing
 table-writing-kept s room = by-kept 1 _ _ (record-kept s) (fits-kept 3 room _)

@@ -10,7 +10,7 @@ use Rattle.bits.proofs.Tests.{cond-cases}
 use Rattle.answers.specs.declared.Answer.{Answer}
 use Rattle.answers.specs.declared.Fault.{Fault}
 use Rattle.answers.specs.Answers.{accepted, refused, refused-by, is-sound, by, _or-else_, fits}
-use Rattle.answers.proofs.Faults.{Plain, plain, Kept, chosen-elim}
+use Rattle.answers.proofs.Faults.{Plain, plain, KeptBy, chosen-elim}
 use Rattle.records.specs.Records.{cube-code, clash-code, clash-pattern, no-pattern, first-fault}
 use Rattle.records.proofs.Places.{first-cases, cube-codes}
 use Rattle.records.proofs.Patterns.{ClashNamed, clash-named, clash-kept}
@@ -55,5 +55,5 @@ writing-named n on off room =
     writing-plain (λ (a : Answer). a .code ≡ 7 → ClashNamed n on off 0 (a .place) (a .pattern)) (λ kind place e. absurd (eqb-false 0 7 refl e)) (λ code who place p e. absurd (p .0 e)) n on off room
     (λ bad _. clash-named n on off 0 bad)
 
-pub writing-kept : (n : ℕ) (on off : List ℕ) (room : ℕ) → Kept (writing n on off room .code) (writing n on off room .pattern)
-writing-kept n on off room = writing-plain (λ (a : Answer). Kept (a .code) (a .pattern)) (λ kind place _. refl) (λ code who place _ _. refl) n on off room (λ _. clash-kept n on off 0)
+pub writing-kept : (n : ℕ) (on off : List ℕ) (room : ℕ) → KeptBy (writing n on off room)
+writing-kept n on off room = writing-plain KeptBy (λ kind place _. refl) (λ code who place _ _. refl) n on off room (λ _. clash-kept n on off 0)
