@@ -1,4 +1,6 @@
 // The five numbers of an answer, faults found while bytes are read in order, and writing into a lent buffer.
+#![tactic(auto)]
+
 ghost use Rattle.std.specs.Prelude.{◌≡◌, [], ◌∷◌, ◌+◌, ◌^◌, ◌≤◌, ◌<◌, length};
 ghost use Rattle.std.proofs.lemmas.List.Edits.{sets};
 ghost use Rattle.answers.specs.Answers.{◌then◌, byte_fault, length_fault, refused_by, stored_if_room, Leaves, packed, told, Tells};

@@ -1,5 +1,7 @@
 // Runs the cases of document 01 on records, summaries, claims and matches, and the examples of the 1995 paper, through the public
 // calls, and prints a line for each.
+#![tactic(auto)]
+
 ghost use Rattle.std.specs.Prelude.{◌≤◌, length};
 
 mod checks;

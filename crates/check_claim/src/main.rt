@@ -1,6 +1,8 @@
 // The check program: f, g and a claim from standard input, the answer to standard output. What it prints is made by
 // `lines::check_lines`; here it is only read and written. If a read fails nothing is printed. A program has no exit status, so
 // what failed is told on standard error.
+#![tactic(auto)]
+
 ghost use Rattle.std.specs.Prelude.{◌≡◌, length};
 
 // Room for the input: two records never take more than 2,050 bytes, and a claim of 49,153 is too long whatever follows

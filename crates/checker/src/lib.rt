@@ -1,5 +1,7 @@
 // The checker: two function records and a claim of any content and length. Bytes are read in the order of document 01, and
 // the first fault is the answer.
+#![tactic(auto)]
+
 ghost use Rattle.std.specs.Prelude.{◌≡◌, ◌≤◌, ◌<◌, length, drop};
 ghost use Rattle.records.specs.Records.{record_end, Accepted};
 ghost use Rattle.wirings.specs.Pairs.{cubes_in, pair_test, dead};

@@ -1,1 +1,3 @@
 // Claims: definitions and laws, no code.
+#![tactic(auto)]
+

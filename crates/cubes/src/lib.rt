@@ -1,5 +1,7 @@
 // Cubes as masks: tests of one cube, and walks over a list of cubes. Each contract speaks of patterns and inputs; that
 // masks do the same is proved in proofs/.
+#![tactic(auto)]
+
 ghost use Rattle.std.specs.Prelude.{◌≡◌, false, ℕ, ◌+◌, ◌*◌, ◌/◌, ◌%◌, ◌≤◌, ◌<◌, length, get_or};
 ghost use Rattle.std.proofs.Math.Option.{none};
 ghost use Rattle.bits.specs.Bits.{has, lesser};

@@ -1,5 +1,7 @@
 // Where two functions disagree under a wiring: the smallest pattern of g, over all pairs to be kept apart. A cube of f is carried
 // over once, and shares its smallest pattern with the whole list of g, unless what is known already is no greater.
+#![tactic(auto)]
+
 ghost use Rattle.std.specs.Prelude.{◌≡◌};
 ghost use Rattle.bits.specs.Bits.{lesser};
 ghost use Rattle.records.specs.Records.{inputs, Accepted};

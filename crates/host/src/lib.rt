@@ -1,5 +1,7 @@
 // What the engine calls, all on slices: matcher, checker, summary, writer and tables. Each answer is one number, which fits for
 // every input.
+#![tactic(auto)]
+
 ghost use Rattle.std.specs.Prelude.{◌≡◌, length};
 ghost use Rattle.answers.specs.Answers.{packed, told, Tells, buffer_after, Leaves};
 ghost use Rattle.records.specs.Records.{summing, figures_of};

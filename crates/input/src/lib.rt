@@ -1,4 +1,6 @@
 // Reading a program's input. `io::read_full` takes a read that fails for the end of the input; here the two are told apart.
+#![tactic(auto)]
+
 ghost use Rattle.io.specs.Counts.{IsPrefixLen};
 
 // What was read: whether no read failed, and how many bytes stand at the buffer's start.

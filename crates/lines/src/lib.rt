@@ -1,5 +1,7 @@
 // The work of the two programs, on slices: the input is cut into records, and answers and claims are turned into text. A program
 // is left with reading and writing.
+#![tactic(auto)]
+
 ghost use Rattle.std.specs.Prelude.{◌≡◌, cond, map, ◌+◌, ◌*◌, ◌≤◌, min, eqb, ltb, length};
 ghost use Rattle.std.proofs.lemmas.List.Edits.{sets};
 ghost use Rattle.answers.specs.Answers.{Leaves};

@@ -1,6 +1,8 @@
 // The match program: f and g from standard input, the answer and the claim to standard output. What it prints is made by
 // `lines::match_lines`; here it is only read and written. If a read fails nothing is printed. A program has no exit status, so
 // what failed is told on standard error.
+#![tactic(auto)]
+
 ghost use Rattle.std.specs.Prelude.{◌≡◌, length};
 
 // Room for the input: two records never take more than 2,050 bytes, and what follows them is ignored (`match_enough`).

@@ -1,6 +1,8 @@
 // The matcher: the first wiring, in the stated order, under which two functions agree; or a tree that says why there is none.
 // The search goes by prefix and cuts off each prefix that has a dead pair. It also measures the tree, so that the length of the
 // claim is known before its first byte is written.
+#![tactic(auto)]
+
 ghost use Rattle.std.specs.Prelude.{◌≡◌, ◌∷◌, ◌+◌, ◌≤◌, length};
 ghost use Rattle.std.proofs.lemmas.List.Edits.{sets};
 ghost use Rattle.answers.specs.Answers.{fits, Delivered};

@@ -1,5 +1,7 @@
 // The partial wiring, by value: one step gives it the next input's choice and returns it, and it answers where a cube's
 // literals go; one step back takes the last choice away. With it, the test of one pair and the first dead pair of two records.
+#![tactic(auto)]
+
 ghost use Rattle.std.specs.Prelude.{◌≡◌, true, ◌&&◌, [], ◌+◌, ◌-◌, ◌*◌, ◌/◌, ◌%◌, ◌≤◌, ◌<◌, length, get_or, take};
 ghost use Rattle.std.proofs.Math.Option.{none};
 ghost use Rattle.bits.specs.Bits.{has, mask, any};

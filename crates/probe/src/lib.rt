@@ -1,4 +1,6 @@
 // Exported functions for tests alone: what the host's calls do not show. Each hands a call's answer over as one number.
+#![tactic(auto)]
+
 ghost use Rattle.std.specs.Prelude.{◌≡◌, length};
 ghost use Rattle.answers.specs.Answers.{Leaves};
 ghost use Rattle.records.specs.Records.{reading, bytes_at_fault};

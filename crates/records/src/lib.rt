@@ -1,5 +1,7 @@
 // Function records: the reader, the summary and the bytes at fault. Bytes are read in the order of document 01, and the
 // first fault is the answer.
+#![tactic(auto)]
+
 ghost use Rattle.std.specs.Prelude.{◌≡◌, ◌≤◌, length, drop};
 ghost use Rattle.records.specs.Records.{cube_code, clash_code, clash_pattern, no_pattern, first_fault, header_fault, record_fault, reading, summing, both_read};
 ghost use Rattle.records.specs.Records.{record_end, on_list as on_bytes, off_list as off_bytes, is_cubes, AtFault};

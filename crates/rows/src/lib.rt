@@ -1,4 +1,6 @@
 // The lines of a table one after another: what they told so far, and whether the next is at fault.
+#![tactic(auto)]
+
 ghost use Rattle.std.specs.Prelude.{◌≡◌, ◌^◌, ◌<◌, length};
 ghost use Rattle.answers.specs.Answers.{fault as fault_of};
 ghost use Rattle.rows.specs.Known.{all_known, if_repeated, inputs_code, term_code, end_code, code_by, more_if, learnt, ends_with, cube_in, kept, Gathered};

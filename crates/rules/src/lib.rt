@@ -1,1 +1,3 @@
 // Choice rules: definitions and laws, no code.
+#![tactic(auto)]
+

@@ -1,1 +1,3 @@
 // What it means that a contract settles its call. It has no function.
+#![tactic(auto)]
+

@@ -1,4 +1,6 @@
 // What a line of a case is made of: text, decimal numbers, bytes in capital hex.
+#![tactic(auto)]
+
 use answers::Answer;
 
 pub fn text(bytes: &[u8]) {

@@ -1,6 +1,8 @@
 // Runs the cases of W-201 through `read_table` and `write_table`, and prints a line for each: its name, the answer's five numbers,
 // and the bytes of the lent buffer afterwards, each AA before. The texts come from standard input, case by case: a name on a line
 // of its own, and then the text, up to an @ that ends a line.
+#![tactic(auto)]
+
 ghost use Rattle.std.specs.Prelude.{◌≡◌, ◌≤◌, length};
 
 use answers::Answer;

@@ -1,4 +1,6 @@
 // One line of a table: what it says, and the lines of terms.
+#![tactic(auto)]
+
 ghost use Rattle.std.specs.Prelude.{◌≡◌, cond, ◌&&◌, ◌∷◌, [], ◌+◌, ◌≤◌, ◌<◌, ltb, eqb, length, drop};
 ghost use Rattle.bits.specs.Bits.{has};
 ghost use Rattle.std.proofs.lemmas.List.Edits.{sets};

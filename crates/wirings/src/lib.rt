@@ -1,1 +1,3 @@
 // Wirings: definitions and laws, no code.
+#![tactic(auto)]
+
