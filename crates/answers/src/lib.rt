@@ -7,7 +7,7 @@ ghost use Rattle.answers.specs.Answers.{◌then◌, byte_fault, length_fault, re
 ghost use Rattle.answers.specs.Answers.{accepted as accepting, refused as refusing};
 
 // What reader, summary, matcher, checker and writer answer.
-#[derive(Drop)]
+#[derive(Clone, Copy)]
 pub struct Answer {
     pub code: u8,
     pub kind: u8,
@@ -17,7 +17,7 @@ pub struct Answer {
 }
 
 // A fault, its place in the bytes that were read and the pattern that it names; code 0 where there is none.
-#[derive(Drop)]
+#[derive(Clone, Copy)]
 pub struct Fault {
     pub code: u8,
     pub place: usize,

@@ -13,7 +13,7 @@ use cubes::Shared;
 use partial::Wiring;
 
 // A wiring with the choices that were read, up to the first fault.
-#[derive(Drop)]
+#[derive(Clone, Copy)]
 pub struct Wired {
     pub fault: Fault,
     pub wiring: Wiring,

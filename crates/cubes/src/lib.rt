@@ -9,7 +9,7 @@ ghost use Rattle.cubes.specs.Cubes.{cube_names, cubes_share, least_shared, some_
 ghost use Rattle.cubes.specs.Values.{pattern_of, number_of};
 
 // The smallest pattern that is shared, or none.
-#[derive(Drop)]
+#[derive(Clone, Copy)]
 pub enum Shared {
     Nowhere,
     At(u8),

@@ -17,7 +17,7 @@ use partial::Wiring;
 
 // What a search found: the choices of the first agreeing wiring, byte i for input i; or, where there is none, the length of the
 // tree that shows it.
-#[derive(Drop)]
+#[derive(Clone, Copy)]
 struct Outcome {
     found: bool,
     choices: u64,

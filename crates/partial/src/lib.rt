@@ -15,7 +15,7 @@ ghost use Rattle.partial.specs.Partial.{prefix, StandsFor, Formed, may_place, of
 // say what remains: the inputs of f that are unplaced, and the inputs of g that are free. Two more hold the choices bit by bit,
 // so that a cube is carried over without a loop: `inverted` has bit i if input i's choice is inverted, and byte i of `bits` has
 // the bit of the input of g that serves input i.
-#[derive(Drop)]
+#[derive(Clone, Copy)]
 pub struct Wiring {
     pub n: u8,
     pub depth: u8,
@@ -28,7 +28,7 @@ pub struct Wiring {
 
 // A cube of f carried over to the inputs of g: the inputs that its placed literals ask to be 1, those they ask to be 0, and
 // those at which a literal not yet placed may still come to stand.
-#[derive(Drop)]
+#[derive(Clone, Copy)]
 pub struct Carried {
     pub pos: u8,
     pub neg: u8,
@@ -36,7 +36,7 @@ pub struct Carried {
 }
 
 // A pair found, as s, u, v; three zeros if none is.
-#[derive(Drop)]
+#[derive(Clone, Copy)]
 pub struct Found {
     pub found: bool,
     pub s: u8,

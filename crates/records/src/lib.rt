@@ -10,7 +10,7 @@ use answers::{Answer, Fault};
 use cubes::Shared;
 
 // The reader's answer, with n, a and b.
-#[derive(Drop)]
+#[derive(Clone, Copy)]
 pub struct Reading {
     pub answer: Answer,
     pub n: u8,
@@ -19,7 +19,7 @@ pub struct Reading {
 }
 
 // The summary: on patterns, off patterns, inputs in use.
-#[derive(Drop)]
+#[derive(Clone, Copy)]
 pub struct Figures {
     pub answer: Answer,
     pub on: u32,

@@ -10,7 +10,7 @@ use terms::{Cube, Line};
 
 // What the lines so far told: n of `.i`, or 0; whether `.o`, `.type` and `.p` stood, and the number of `.p`; how many terms there
 // were, and how many of them with output 1 and with output 0.
-#[derive(Drop)]
+#[derive(Clone, Copy)]
 pub struct Known {
     pub n: u8,
     pub one: bool,
@@ -208,7 +208,7 @@ fn keep(list: &mut [u8], count: usize, cube: Cube, c: u8)
 }
 
 // What a walk over the lines finds: the first faulty line, or n and the number of cubes of either list.
-#[derive(Drop)]
+#[derive(Clone, Copy)]
 pub struct Scan {
     pub fault: Fault,
     pub n: u8,

@@ -12,7 +12,7 @@ ghost use Rattle.terms.specs.Seen.{cube as cube_as, no_cube, cube_seen, seen, nu
 use words::Counted;
 
 // A term: how many inputs it has, its cube, and the character of its output. With n = 0 it is none.
-#[derive(Drop)]
+#[derive(Clone, Copy)]
 pub struct Cube {
     pub n: u8,
     pub pos: u8,
@@ -21,7 +21,7 @@ pub struct Cube {
 }
 
 // What a line says.
-#[derive(Drop)]
+#[derive(Clone, Copy)]
 pub enum Line {
     Nothing,
     Inputs(u64),
@@ -205,7 +205,7 @@ fn last(text: &[u8], start: usize, end: usize, next: usize) -> bool
 }
 
 // What a line says, and a place in it up to which it was looked at, so that the way to its end need not begin again.
-#[derive(Drop)]
+#[derive(Clone, Copy)]
 pub struct Said {
     pub line: Line,
     pub to: usize,

@@ -9,7 +9,7 @@ ghost use Rattle.words.specs.Counted.{most, counted};
 ghost use Rattle.words.specs.Eight.{bytes};
 
 // A number that was read, or none. One beyond the largest that is told apart is told as that one.
-#[derive(Drop)]
+#[derive(Clone, Copy)]
 pub struct Counted {
     pub is: bool,
     pub value: u64,

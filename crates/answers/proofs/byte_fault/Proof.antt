@@ -10,8 +10,8 @@ unfolding byte_fault
 byte_fault_spec =
     tie.close
     (tie.spec
-    (λ c. simp (le-leb _ _ c.if1.true))
+    (λ c. simp (le-leb _ _ c.if-s-k.true))
     (λ c. search rules)
-    (λ c. simp (lt-leb _ _ c.before.before.if1.false, lt-leb _ _ c.if2.true))
-    (λ c. simp (lt-leb _ _ c.before.before.before.if1.false, le-leb _ _ c.before.if2.false, lt-leb _ _ c.if3.true))
-    (λ c. simp (lt-leb _ _ c.before.before.before.if1.false, le-leb _ _ c.before.if2.false, le-leb _ _ c.if3.false)))
+    (λ c. simp (lt-leb _ _ c.if-s-k.false, lt-leb _ _ c.if-b-low.true))
+    (λ c. simp (lt-leb _ _ c.if-s-k.false, le-leb _ _ c.if-b-low.false, lt-leb _ _ c.if-high-b.true))
+    (λ c. simp (lt-leb _ _ c.if-s-k.false, le-leb _ _ c.if-b-low.false, le-leb _ _ c.if-high-b.false)))

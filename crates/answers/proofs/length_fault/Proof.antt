@@ -9,6 +9,6 @@ unfolding length_fault
 length_fault_spec =
     tie.close
     (tie.spec
-    (λ c. simp (lt-ltb _ _ c.if1.true))
-    (λ c. simp (le-ltb _ _ c.before.if1.false, lt-ltb _ _ c.if2.true))
-    (λ c. simp (le-ltb _ _ c.before.if1.false, le-ltb _ _ c.if2.false)))
+    (λ c. simp (lt-ltb _ _ c.if-len-end.true))
+    (λ c. simp (le-ltb _ _ c.if-len-end.false, lt-ltb _ _ c.if-end-len.true))
+    (λ c. simp (le-ltb _ _ c.if-len-end.false, le-ltb _ _ c.if-end-len.false)))

@@ -9,7 +9,7 @@ use Rattle.answers.proofs.pack.Tie as tie
 returns : tie.Need-returns
 unfolding packed
 returns c =
-    let k = c.before.before.before.struct_known.given in
+    let k = c.struct_known-1.given in
     let code = k.0.fits in
     let kind = k.1.0.fits in
     let who = k.1.1.0.fits in (

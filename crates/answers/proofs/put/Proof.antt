@@ -16,27 +16,27 @@ record Stored (before : List ℕ) (at : ℕ) (bytes out : List ℕ) (i : ℕ) : 
   long : length out ≡ length before
   rest : sets out (at + i) (drop i bytes) ≡ sets before at bytes
 
-abbrev invariant_loop : tie.invariant_loop
+abbrev invariant_loop : tie.invariant-loop-i
 invariant_loop out₀ at bytes i₀ out i = Stored out₀ at bytes out i
 
-abbrev decreases_loop : tie.decreases_loop
+abbrev decreases_loop : tie.decreases-loop-i
 decreases_loop out₀ at bytes i₀ out i = length bytes - i
 
-loop_again : tie.Need-loop-preserved invariant_loop decreases_loop
+loop_again : tie.Need-loop-i-preserved invariant_loop decreases_loop
 loop_again c =
-    let k = c.before.before.loop in
-    let a = c.before.before.before.args in
+    let k = c.loop-i in
+    let a = c.args in
     record {
       within = omega arith;
       long = length-set k.out _ _ ∙ k.invariant.long;
-      rest = store_next k.out a.bytes.now a.at k.i c.before.loop-test.true ∙ k.invariant.rest;
+      rest = store_next k.out a.bytes.now a.at k.i c.loop-i-test.true ∙ k.invariant.rest;
     }
 
 returns : tie.Need-returns invariant_loop decreases_loop
 returns c =
-    let k = c.before.loop in
-    let a = c.before.before.args in
-    sym (ap (sets k.out (a.at + k.i)) (drop_of_length-le a.bytes.now c.loop-test.false)) ∙ k.invariant.rest
+    let k = c.loop-i in
+    let a = c.args in
+    sym (ap (sets k.out (a.at + k.i)) (drop_of_length-le a.bytes.now c.loop-i-test.false)) ∙ k.invariant.rest
 
 pub put_spec : {M : Type 1} → statement M
 put_spec =
@@ -51,5 +51,5 @@ put_spec =
     (λ c. omega arith)
     (λ c. omega arith)
     loop_again
-    (λ c. c.before.loop.invariant.long)
+    (λ c. c.loop-i.invariant.long)
     returns)

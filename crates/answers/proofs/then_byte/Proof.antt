@@ -9,6 +9,6 @@ pub then_byte_spec : {M : Type 1} → statement M
 then_byte_spec =
     tie.close
     (tie.spec
-    (λ c. sym (then_stop _ _ c.if1.true))
+    (λ c. sym (then_stop _ _ c.if-so_far-ne0.true))
     (λ c κs. search rules)
-    (λ c. c.byte_fault.ensures ∙ sym (then_next _ _ c.before.if1.false)))
+    (λ c. c.byte_fault.ensures ∙ sym (then_next _ _ c.if-so_far-ne0.false)))

@@ -8,8 +8,7 @@ use Rattle.cubes.proofs.any_holds.Tie as tie
 
 returns : tie.Need-returns
 returns c =
-    let start = c.before.before in
-    c.any_shares.ensures ∙ some_same _ _ start.args.cubes.now (each_all _ (λ P N. as_cube P N start.args.x start.ranges.x.fits) start.args.cubes.now)
+    c.any_shares.ensures ∙ some_same _ _ c.args.cubes.now (each_all _ (λ P N. as_cube P N c.args.x c.ranges.x.fits) c.args.cubes.now)
 
 pub any_holds_spec : {M : Type 1} → statement M
 any_holds_spec = tie.close (tie.spec (λ c κs. search rules) returns)

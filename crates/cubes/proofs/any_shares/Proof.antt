@@ -9,21 +9,19 @@ use Rattle.cubes.proofs.Lists.{Walk, walk_starts, walk_found, walk_goes, walk_en
 use Rattle.cubes.proofs.any_shares.Statement.{statement}
 use Rattle.cubes.proofs.any_shares.Tie as tie
 
-abbrev invariant_loop : tie.invariant_loop
+abbrev invariant_loop : tie.invariant-loop-at
 invariant_loop pos neg cubes at₀ at = Walk (cubes_share 8 pos neg) cubes at
 
-abbrev decreases_loop : tie.decreases_loop
+abbrev decreases_loop : tie.decreases-loop-at
 decreases_loop pos neg cubes at₀ at = length cubes - at
 
-returns : tie.Need-returns invariant_loop decreases_loop
+returns : tie.Need-returns-in-At invariant_loop decreases_loop
 returns c =
-    let t = c.before.before.before.before.before in
-    sym (walk_found _ _ _ t.before.loop.invariant t.loop-test.true (shared_at _ _ _ _ _ _ c.before.before.shares.ensures _ c.enum_told2.given.1))
+    sym (walk_found _ _ _ c.loop-at.invariant c.loop-at-test.true (shared_at _ _ _ _ _ _ c.shares.ensures _ c.in-At.is))
 
-loop_again : tie.Need-loop-preserved invariant_loop decreases_loop
+loop_again : tie.Need-loop-at-preserved invariant_loop decreases_loop
 loop_again c =
-    let t = c.before.before.before.before.before in
-    walk_goes _ _ _ t.before.loop.invariant t.loop-test.true (shared_nowhere _ _ _ _ _ _ c.before.before.shares.ensures c.enum_told.given.1)
+    walk_goes _ _ _ c.loop-at.invariant c.loop-at-test.true (shared_nowhere _ _ _ _ _ _ c.shares.ensures c.in-Nowhere.is)
 
 pub any_shares_spec : {M : Type 1} → statement M
 any_shares_spec =
@@ -43,4 +41,4 @@ any_shares_spec =
     (λ c. omega arith)
     (λ c. omega arith)
     loop_again
-    (λ c. sym (walk_ends _ _ _ c.before.loop.invariant c.loop-test.false)))
+    (λ c. sym (walk_ends _ _ _ c.loop-at.invariant c.loop-at-test.false)))

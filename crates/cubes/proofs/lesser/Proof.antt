@@ -9,26 +9,26 @@ use Rattle.cubes.specs.Values.{pattern_of}
 use Rattle.cubes.proofs.lesser.Statement.{statement}
 use Rattle.cubes.proofs.lesser.Tie as tie
 
-returns : tie.Need-returns
+returns : tie.Need-returns-then-y-x
 unfolding lesser pattern_of
 returns c =
-    let a = c.before.before.before.before.before.a.given.1 in
-    let b = c.before.before.b.given.1 in
+    let a = c.in-At.is in
+    let b = c.in-At-b.is in
     ap some (omega arith) ∙ sym (ap₂ lesser (ap pattern_of a) (ap pattern_of b))
 
-returns_2 : tie.Need-returns-2
+returns_2 : tie.Need-returns-in-Nowhere
 unfolding lesser pattern_of
-returns_2 c = sym (ap (λ (a : Shared). lesser (pattern_of a) (pattern_of c.before.before.args.b)) c.enum_told.given.1)
+returns_2 c = sym (ap (λ (a : Shared). lesser (pattern_of a) (pattern_of c.args.b)) c.in-Nowhere.is)
 
-returns_3 : tie.Need-returns-3
+returns_3 : tie.Need-returns-in-Nowhere-b
 unfolding lesser pattern_of
-returns_3 c = sym (ap₂ lesser (ap pattern_of c.before.before.before.a.given.1) (ap pattern_of c.enum_told2.given.1))
+returns_3 c = sym (ap₂ lesser (ap pattern_of c.in-At.is) (ap pattern_of c.in-Nowhere-b.is))
 
-returns_4 : tie.Need-returns-4
+returns_4 : tie.Need-returns-else-y-x
 unfolding lesser pattern_of
 returns_4 c =
-    let a = c.before.before.before.before.before.a.given.1 in
-    let b = c.before.before.b.given.1 in
+    let a = c.in-At.is in
+    let b = c.in-At-b.is in
     ap some (omega arith) ∙ sym (ap₂ lesser (ap pattern_of a) (ap pattern_of b))
 
 pub lesser_spec : {M : Type 1} → statement M

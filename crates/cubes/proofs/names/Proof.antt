@@ -20,10 +20,10 @@ record Collected (cubes : List ℕ) (mask at : ℕ) : Type 0 where
   within : at ≤ length cubes
   so_far : (i : ℕ) → named i cubes ≡ has mask i || named i (drop at cubes)
 
-abbrev invariant_loop : tie.invariant_loop
+abbrev invariant_loop : tie.invariant-loop-at
 invariant_loop cubes mask₀ at₀ mask at = Collected cubes mask at
 
-abbrev decreases_loop : tie.decreases_loop
+abbrev decreases_loop : tie.decreases-loop-at
 decreases_loop cubes mask₀ at₀ mask at = length cubes - at
 
 -- one more cube is collected
@@ -52,6 +52,6 @@ names_spec =
     (λ c. omega arith)
     (λ c. omega arith)
     (λ c. omega arith)
-    (λ c. more _ _ _ c.before.before.loop-test.true c.before.before.before.loop.invariant)
+    (λ c. more _ _ _ c.loop-at-test.true c.loop-at.invariant)
     (λ c. λ i.
-    sym (c.before.loop.invariant.so_far i ∙ ap (λ (b : Bool). has c.before.loop.mask i || b) (some_end (λ P N. cube_names P N i) _ _ c.loop-test.false) ∙ or-false (has c.before.loop.mask i))))
+    sym (c.loop-at.invariant.so_far i ∙ ap (λ (b : Bool). has c.loop-at.mask i || b) (some_end (λ P N. cube_names P N i) _ _ c.loop-at-test.false) ∙ or-false (has c.loop-at.mask i))))

@@ -49,17 +49,17 @@ more cubes n end x held t e h k =
       so_far = rw add-one (ap₂ ◌+◌ k.so_far (byte_cond t ∙ ap (λ (b : Bool). cond b 1 0) here));
     }
 
-abbrev invariant_loop : tie.invariant_loop
+abbrev invariant_loop : tie.invariant-loop-x
 invariant_loop cubes n end x₀ held₀ x held = Counted cubes n end x held
 
-abbrev decreases_loop : tie.decreases_loop
+abbrev decreases_loop : tie.decreases-loop-x
 decreases_loop cubes n end x₀ held₀ x held = end - x
 
 returns : tie.Need-returns invariant_loop decreases_loop
 unfolding patterns_held
 returns c =
-    let k = c.before.loop.invariant in
-    k.so_far ∙ ap (λ (end : ℕ). count end (some_holds c.before.before.before.args.cubes.now)) (omega arith)
+    let k = c.loop-x.invariant in
+    k.so_far ∙ ap (λ (end : ℕ). count end (some_holds c.args.cubes.now)) (omega arith)
 
 pub patterns_spec : {M : Type 1} → statement M
 patterns_spec =
@@ -68,12 +68,12 @@ patterns_spec =
     invariant_loop
     decreases_loop
     (λ c. omega arith)
-    (λ c. starts _ _ c.before.requires)
+    (λ c. starts _ _ c.requires)
     (λ c. omega arith)
     (λ c κs. search rules)
     (λ c. omega (arith, byte_le c.any_holds.result))
     (λ c. omega (arith, byte_le c.any_holds.result))
     (λ c. omega arith)
     (λ c. omega arith)
-    (λ c. more _ _ _ _ _ _ c.any_holds.ensures c.before.loop-test.true c.before.before.loop.invariant)
+    (λ c. more _ _ _ _ _ _ c.any_holds.ensures c.loop-x-test.true c.loop-x.invariant)
     returns)

@@ -12,9 +12,9 @@ use Rattle.cubes.proofs.used.Tie as tie
 returns : tie.Need-returns
 unfolding inputs_used
 returns c =
-    let a = c.before.names in
-    let b = c.names2 in
-    ones_count 8 _ (or_lt 8 a.result b.result a.type-inv b.type-inv)
+    let a = c.names in
+    let b = c.names-2 in
+    ones_count 8 _ (or_lt 8 a.result b.result a.type_inv b.type_inv)
     ∙ count_same _ _ 8 (λ i h. has_or a.result b.result i ∙ ap₂ ◌||◌ (a.ensures i) (b.ensures i))
 
 pub used_spec : {M : Type 1} → statement M
