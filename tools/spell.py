@@ -15,7 +15,7 @@ import re
 WORD = r"[^\s(){}\[\],;.λ→×↦|\"«»⌜⌝?]+"
 KEPT = {"bit-and", "bit-or", "bit-xor"}
 # the newer language has a tactic of this name
-TACTICS = {"first_of": "first_given"}
+TACTICS = {"first_of": "first_some"}
 # what the old form generated, which the new one spells itself
 GENERATED = re.compile(r"^(After|Need|Lts|Else|Then)-|^(Any-open|type-inv|loop2?-test)$")
 RECORDS = {n: n.lower().replace("-", "_") + "_record" for n in

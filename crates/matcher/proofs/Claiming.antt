@@ -13,7 +13,7 @@ use lib.ListN.{length}
 use lib.Seq.{sets}
 use Rattle.rules.specs.Lists.{first}
 use Rattle.rules.specs.Rules.{completions, follows}
-use Rattle.rules.proofs.Lists.{first_found, first_given, first_flat, first_map, ◌else◌}
+use Rattle.rules.proofs.Lists.{first_found, first_some, first_flat, first_map, ◌else◌}
 use Rattle.rules.proofs.Seek.{else_nothing}
 use Rattle.rules.proofs.Cut.{Reached, start_reached}
 use Rattle.answers.specs.declared.Answer.{Answer}
@@ -62,7 +62,7 @@ module _ (f g : List ℕ) where
   with_phase q = Option.map (λ (w : List ℕ). q ∷ w) (first_from n q f g [])
 
   by_phase : first_agreeing f g ≡ (with_phase 0 else with_phase 1)
-  unfolding first_agreeing first_from wirings flat_map first_given
+  unfolding first_agreeing first_from wirings flat_map first_some
   by_phase =
       rw sub-zero
       (first_flat (agreeing f g) (λ q. map (λ (w : List ℕ). q ∷ w) (completions (straight n) n [])) (0 ∷ 1 ∷ [])

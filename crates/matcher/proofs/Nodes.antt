@@ -12,7 +12,7 @@ use native.Mathlib.Omega.{arith}
 use lib.ListN.{length, length-append}
 use Rattle.rules.specs.Lists.{first}
 use Rattle.rules.specs.Rules.{◌adding◌, next, completions, follows}
-use Rattle.rules.proofs.Lists.{first_given, first_flat}
+use Rattle.rules.proofs.Lists.{first_some, first_flat}
 use Rattle.rules.proofs.Cut.{Reached, Death, cut_first, whole_passes}
 use Rattle.records.specs.Records.{inputs, Accepted}
 use Rattle.wirings.specs.Wirings.{straight, choice_at, agrees}
@@ -41,7 +41,7 @@ module _ (n q : ℕ) (f g w : List ℕ) where
 
   -- the first agreeing completion that some choices give
   abbrev pub first_among : List ℕ → Option (List ℕ)
-  first_among l = first_given (λ b. first_from n q f g (w adding b)) l
+  first_among l = first_some (λ b. first_from n q f g (w adding b)) l
 
   -- a dead pair closes the node
   pub closed : (p : Pair) → first_dead n q f g w ≡ some p → node_bytes ≡ p.0 ∷ p.1 ∷ p.2 ∷ []
@@ -98,7 +98,7 @@ module _ (n q : ℕ) (f g w : List ℕ) where
         let from : ℕ → List ℕ → Option (List ℕ) = λ k w. first (agrees q f g) (completions (straight n) k w) in
         ap (λ (k : ℕ). from k w) left
         ∙ first_flat (agrees q f g) (λ b. completions (straight n) k (w adding b)) (next (straight n) w)
-        ∙ ap (λ (t : ℕ → Option (List ℕ)). first_given t (next (straight n) w)) (fun_ext (λ b. ap (λ (m : ℕ). from m (w adding b)) (sym (less k b left))))
+        ∙ ap (λ (t : ℕ → Option (List ℕ)). first_some t (next (straight n) w)) (fun_ext (λ b. ap (λ (m : ℕ). from m (w adding b)) (sym (less k b left))))
 
     module _ (d : Death (straight n) n (agrees q f g) (some_dead n q f g)) where
       -- a node with a dead pair has none

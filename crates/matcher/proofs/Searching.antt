@@ -9,7 +9,7 @@ use native.Mathlib.Nat.{add-zero}
 use native.Mathlib.Omega.{arith}
 use lib.ListN.{length}
 use Rattle.rules.specs.Rules.{◌adding◌}
-use Rattle.rules.proofs.Lists.{first_given, ◌else◌}
+use Rattle.rules.proofs.Lists.{first_some, ◌else◌}
 use Rattle.rules.proofs.Cut.{Death}
 use Rattle.wirings.specs.Wirings.{straight, choice_at, agrees}
 use Rattle.wirings.specs.Pairs.{first_dead}
@@ -102,7 +102,7 @@ module _ (r : Wiring) (q : ℕ) (f g : List ℕ) where
       child_bytes = node_bytes r'.n q f g (prefix r')
 
       whole : (k' : ℕ) → k' ≡ offer_from n w (k + 1) → first_from n q f g w ≡ (child_first else first_later k')
-      unfolding first_given
+      unfolding first_some
       whole k' next =
           sym i.rest ∙ ap (first_among n q f g w) (takes r s k b h is i.next k' next)
           ∙ sym (stands_as r' n (w adding b) placed (λ m v. first_from m q f g v else first_later k'))
@@ -133,7 +133,7 @@ module _ (r : Wiring) (q : ℕ) (f g : List ℕ) where
 
     -- after the last choice
     pub searched_all : (k : ℕ) → 2 * n ≤ k → (so_far : ℕ) → Searching k so_far → Comes n q f g w (record { found = false; choices = 0; length = so_far })
-    unfolding searched first_given tree_each trees_bytes
+    unfolding searched first_some tree_each trees_bytes
     searched_all k h so_far i =
         let over = offered_end n w k h in
         sym (ap₂ searched (sym i.rest ∙ ap (first_among n q f g w) over) (sym i.long ∙ ap (λ (l : List ℕ). so_far + length (branches n q f g w l)) over ∙ add-zero so_far))

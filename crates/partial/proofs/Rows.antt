@@ -1,5 +1,5 @@
 -- The first dead pair, row by row: one cube of f against a list of g, then a list of f against a list of g, then both lists
--- of f. Each is the first number that gives something (`first_given`), so one law serves both loops.
+-- of f. Each is the first number that gives something (`first_some`), so one law serves both loops.
 use Prim.Native.Nat.{ℕ, ◌+◌, ◌*◌, ◌≤◌, ◌<◌}
 use mathlib.Core.Path.{◌≡◌, refl, sym, ap, ap₂, ◌∙◌, fun_ext}
 use mathlib.Core.Bool.{Bool, true, false, cond, false≢true}
@@ -8,7 +8,7 @@ use mathlib.Core.Option.{Option, none, some}
 use lib.ListN.{get_or}
 use Rattle.rules.specs.Lists.{upto, first}
 use Rattle.rules.specs.Rules.{follows}
-use Rattle.rules.proofs.Lists.{map_in, first_given, first_same, first_flat, ◌else◌}
+use Rattle.rules.proofs.Lists.{map_in, first_some, first_same, first_flat, ◌else◌}
 use Rattle.rules.proofs.Seek.{Seek, seek_found, seek_goes, seek_ends, first_given, else_nothing}
 use Rattle.wirings.specs.Wirings.{straight}
 use Rattle.wirings.specs.Pairs.{dead, cubes_in, at_cube, side, against, Pair, cube_pairs, pairs, pair_test, of_pair, first_dead}
@@ -40,7 +40,7 @@ module _ (c : Carried) (list : List ℕ) (s u : ℕ) where
   abbrev pub row_at : ℕ → Option Pair
   row_at v = cond (at_cube (clears c) list v) (some (s, u, v)) none
 
-  row_given : row c list s u ≡ first_given row_at (upto (cubes_in list))
+  row_given : row c list s u ≡ first_some row_at (upto (cubes_in list))
   unfolding row
   row_given = first_given (λ p. at_cube (clears c) list p.2) (λ v. (s, u, v)) (upto (cubes_in list))
 
@@ -66,11 +66,11 @@ module _ (n : ℕ) (few : n ≤ 8) (w : List ℕ) (allowed : follows (straight n
   abbrev at : ℕ → Option Pair
   at = rows_at n w list other s
 
-  rows_given : rows n w list other s ≡ first_given at (upto (cubes_in list))
+  rows_given : rows n w list other s ≡ first_some at (upto (cubes_in list))
   unfolding rows row
   rows_given =
       first_flat (pair_test (dead n w) list other) (cube_pairs other s) (upto (cubes_in list))
-      ∙ ap (λ (h : ℕ → Option Pair). first_given h (upto (cubes_in list))) (fun_ext same_row)
+      ∙ ap (λ (h : ℕ → Option Pair). first_some h (upto (cubes_in list))) (fun_ext same_row)
     where
       same_row : (u : ℕ) → first (pair_test (dead n w) list other) (cube_pairs other s u) ≡ at u
       same_row u =
@@ -96,7 +96,7 @@ module _ (n : ℕ) (few : n ≤ 8) (w : List ℕ) (allowed : follows (straight n
 
 pub first_dead_rows : (n q : ℕ) (f g w : List ℕ)
     → first_dead n q f g w ≡ (rows n w (side 0 f) (side (against q 0) g) 0 else rows n w (side 1 f) (side (against q 1) g) 1)
-unfolding first_dead pairs rows first_given
+unfolding first_dead pairs rows first_some
 first_dead_rows n q f g w =
     first_flat (of_pair q f g (dead n w)) (of_side q f g) (0 ∷ 1 ∷ [])
     ∙ ap₂ (λ (a b : Option Pair). a else b) (same_list 0) (else_nothing (first (of_pair q f g (dead n w)) (of_side q f g 1)) ∙ same_list 1)

@@ -3,7 +3,7 @@ use Prim.Native.Nat.{ℕ, zero, suc, ◌+◌}
 use mathlib.Core.Path.{◌≡◌, refl, sym, ap, ◌∙◌, subst}
 use mathlib.Core.Bool.{Bool, true, ◌&&◌, and_assoc}
 use mathlib.Core.List.{List, [], ◌∷◌, ◌++◌, append-nil, append_assoc}
-use mathlib.Core.Logic.{inl}
+use mathlib.Core.Logic.{inl, inr}
 use borrow.Author.Tests.{eqb-true, eq-eqb}
 use lib.Dec.{eqb}
 use lib.ListN.{length, length-append}
@@ -29,6 +29,7 @@ module _ (R : Rule) where
   -- a completion is w with k choices added, each of which may follow
   pub completion_extends : (k : ℕ) (w v : List ℕ) → In v (completions R k w) → (r : List ℕ) × (v ≡ w ++ r) × (length r ≡ k) × (follows R w r ≡ true)
   unfolding In completions follows
+  completion_extends zero w v (inr i) = elim i [ ]
   completion_extends zero w v (inl e) = ([], e ∙ sym (append-nil w), refl, refl)
   completion_extends (suc k) w v i =
       let f = flat_in (λ b. completions R k (w adding b)) v (next R w) i in

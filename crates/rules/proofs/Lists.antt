@@ -26,6 +26,7 @@ module _ {A : Type 0} where
   -- the elements of two lists joined are those of the one and of the other
   pub in_left : (x : A) (l m : List A) → In x l → In x (l ++ m)
   unfolding In
+  in_left x [] m i = elim i [ ]
   in_left x (y ∷ l) m (inl e) = inl e
   in_left x (y ∷ l) m (inr i) = inr (in_left x l m i)
 
@@ -44,11 +45,13 @@ module _ {A B : Type 0} (f : A → B) where
   -- the elements of a list mapped are those of the list, mapped
   pub in_map : (x : A) (l : List A) → In x l → In (f x) (map f l)
   unfolding In
+  in_map x [] i = elim i [ ]
   in_map x (y ∷ l) (inl e) = inl (ap f e)
   in_map x (y ∷ l) (inr i) = inr (in_map x l i)
 
   pub map_in : (y : B) (l : List A) → In y (map f l) → (x : A) × In x l × (y ≡ f x)
   unfolding In
+  map_in y [] i = elim i [ ]
   map_in y (x ∷ l) (inl e) = (x, inl refl, e)
   map_in y (x ∷ l) (inr i) = let w = map_in y l i in (w.0, inr w.1, w.2)
 
@@ -62,11 +65,13 @@ module _ {A B : Type 0} (f : A → List B) where
   -- the elements of lists joined are those of each
   pub in_flat : (x : A) (y : B) (l : List A) → In x l → In y (f x) → In y (flat_map f l)
   unfolding In flat_map
+  in_flat x y [] i j = elim i [ ]
   in_flat x y (z ∷ l) (inl e) j = in_left y (f z) (flat_map f l) (subst (λ (a : A). In y (f a)) e j)
   in_flat x y (z ∷ l) (inr i) j = in_right y (f z) (flat_map f l) (in_flat x y l i j)
 
   pub flat_in : (y : B) (l : List A) → In y (flat_map f l) → (x : A) × In x l × In y (f x)
   unfolding In flat_map
+  flat_in y [] i = elim i [ ]
   flat_in y (z ∷ l) i =
       ⊎_elim (λ (j : In y (f z)). (z, inl refl, j)) (λ (j : In y (flat_map f l)). let w = flat_in y l j in (w.0, inr w.1, w.2))
       (in_either y (f z) (flat_map f l) i)
@@ -89,11 +94,13 @@ module _ {A : Type 0} (t : A → Bool) where
   -- the elements that pass are among those chosen, and no others
   pub in_filter : (x : A) (l : List A) → In x l → t x ≡ true → In x (filter t l)
   unfolding In filter
+  in_filter x [] i p = elim i [ ]
   in_filter x (y ∷ l) (inl e) p = simp (sym (ap t e) ∙ p) (inl e)
   in_filter x (y ∷ l) (inr i) p = elim (t y) as (λ b. In x (cond b (y ∷ filter t l) (filter t l))) [ true ↦ inr (in_filter x l i p) | false ↦ in_filter x l i p ]
 
   pub filter_in : (x : A) (l : List A) → In x (filter t l) → In x l × (t x ≡ true)
   unfolding In filter
+  filter_in x [] i = elim i [ ]
   filter_in x (y ∷ l) i = go (t y) refl i (λ j. filter_in x l j)
     where
       go : (b : Bool) → t y ≡ b → In x (cond b (y ∷ filter t l) (filter t l)) → (In x (filter t l) → In x l × (t x ≡ true)) → In x (y ∷ l) × (t x ≡ true)
@@ -110,12 +117,14 @@ module _ {A : Type 0} (t : A → Bool) where
 
   pub some_if : (x : A) (l : List A) → In x l → t x ≡ true → some_in t l ≡ true
   unfolding In some_in
+  some_if x [] i p = elim i [ ]
   some_if x (y ∷ l) (inl e) p = or_left (some_in t l) (sym (ap t e) ∙ p)
   some_if x (y ∷ l) (inr i) p = or_right (t y) (some_if x l i p)
 
   -- each element of a list passes exactly where none fails
   pub each_at : (x : A) (l : List A) → each_in t l ≡ true → In x l → t x ≡ true
   unfolding In each_in
+  each_at x [] p i = elim i [ ]
   each_at x (y ∷ l) p (inl e) = ap t e ∙ both_left (t y) (each_in t l) p
   each_at x (y ∷ l) p (inr i) = each_at x l (both_right (t y) (each_in t l) p) i
 
@@ -190,9 +199,9 @@ none else o = o
 some x else o = some x
 
 -- the first that gives something
-unfoldable pub first_given : {A B : Type 0} → (A → Option B) → List A → Option B
-first_given f [] = none
-first_given f (x ∷ l) = f x else first_given f l
+unfoldable pub first_some : {A B : Type 0} → (A → Option B) → List A → Option B
+first_some f [] = none
+first_some f (x ∷ l) = f x else first_some f l
 
 module _ {A : Type 0} (t : A → Bool) where
   -- nothing is found exactly where no element passes, and what is found is an element that passes
@@ -231,8 +240,8 @@ module _ {A : Type 0} (t : A → Bool) where
 
 module _ {A B : Type 0} (t : B → Bool) where
   -- the first that passes of a list made of others
-  pub first_flat : (f : A → List B) (l : List A) → first t (flat_map f l) ≡ first_given (λ x. first t (f x)) l
-  unfolding first first_given flat_map
+  pub first_flat : (f : A → List B) (l : List A) → first t (flat_map f l) ≡ first_some (λ x. first t (f x)) l
+  unfolding first first_some flat_map
   first_flat f [] = refl
   first_flat f (x ∷ l) = first_append t (f x) (flat_map f l) ∙ ap (λ (o : Option B). first t (f x) else o) (first_flat f l)
 
@@ -264,6 +273,7 @@ module _ {A : Type 0} (t : A → Bool) (x : A) where
 -- a run has the numbers from the first on, as many as asked
 pub in_run : (k a n : ℕ) → In k (run a n) → (a ≤ k) × (k < a + n)
 unfolding In run
+in_run k a zero i = elim i [ ]
 in_run k a (suc n) (inl e) = (omega arith, omega arith)
 in_run k a (suc n) (inr i) = let w = in_run k (suc a) n i in (omega arith, omega arith)
 

@@ -8,7 +8,7 @@ use native.Mathlib.Nat.{sub-zero}
 use native.Mathlib.Numerals.{add-one}
 use native.Mathlib.Omega.{arith}
 use Rattle.rules.specs.Lists.{run, upto, first}
-use Rattle.rules.proofs.Lists.{◌else◌, first_given}
+use Rattle.rules.proofs.Lists.{◌else◌, first_some}
 
 -- what the one gives, else the other
 module _ {A : Type 0} where
@@ -26,11 +26,11 @@ module _ {A : Type 0} where
   else_nothing (some x) = refl
 
 -- the first of a list mapped, as the first that gives something
-pub first_given : {A B : Type 0} (t : B → Bool) (f : A → B) (l : List A) → first t (map f l) ≡ first_given (λ x. cond (t (f x)) (some (f x)) none) l
-unfolding first first_given ◌else◌
+pub first_given : {A B : Type 0} (t : B → Bool) (f : A → B) (l : List A) → first t (map f l) ≡ first_some (λ x. cond (t (f x)) (some (f x)) none) l
+unfolding first first_some ◌else◌
 first_given t f [] = refl
 first_given t f (x ∷ l) =
-    elim (t (f x)) as (λ b. cond b (some (f x)) (first t (map f l)) ≡ (cond b (some (f x)) none else first_given (λ x. cond (t (f x)) (some (f x)) none) l)) [
+    elim (t (f x)) as (λ b. cond b (some (f x)) (first t (map f l)) ≡ (cond b (some (f x)) none else first_some (λ x. cond (t (f x)) (some (f x)) none) l)) [
       | true ↦ refl
       | false ↦ first_given t f l
     ]
@@ -46,25 +46,25 @@ module _ {B : Type 0} (h : ℕ → Option B) (m : ℕ) where
   -- the loop has come to v, and nothing was given
   pub record Seek (v : ℕ) : Type 0 where
     pub within : v ≤ m
-    pub rest : first_given h (upto m) ≡ first_given h (run v (m - v))
+    pub rest : first_some h (upto m) ≡ first_some h (run v (m - v))
 
   pub seek_starts : Seek 0
-  seek_starts = record { within = omega arith; rest = ap (λ (k : ℕ). first_given h (run 0 k)) (sym (sub-zero m)) }
+  seek_starts = record { within = omega arith; rest = ap (λ (k : ℕ). first_some h (run 0 k)) (sym (sub-zero m)) }
 
   module _ (v : ℕ) (s : Seek v) where
-    step : v < m → first_given h (upto m) ≡ (h v else first_given h (run (v + 1) (m - (v + 1))))
-    unfolding first_given
-    step l = s.rest ∙ ap (first_given h) (run_step v m l)
+    step : v < m → first_some h (upto m) ≡ (h v else first_some h (run (v + 1) (m - (v + 1))))
+    unfolding first_some
+    step l = s.rest ∙ ap (first_some h) (run_step v m l)
 
-    pub seek_found : v < m → (x : B) → h v ≡ some x → first_given h (upto m) ≡ h v
+    pub seek_found : v < m → (x : B) → h v ≡ some x → first_some h (upto m) ≡ h v
     seek_found l x e = step l ∙ else_some (h v) _ x e
 
     pub seek_goes : v < m → h v ≡ none → Seek (v + 1)
     seek_goes l e = record { within = omega arith; rest = step l ∙ else_none (h v) _ e }
 
-    pub seek_ends : m ≤ v → first_given h (upto m) ≡ none
-    unfolding run first_given
-    seek_ends l = s.rest ∙ ap (λ (k : ℕ). first_given h (run v k)) (none_left v m l)
+    pub seek_ends : m ≤ v → first_some h (upto m) ≡ none
+    unfolding run first_some
+    seek_ends l = s.rest ∙ ap (λ (k : ℕ). first_some h (run v k)) (none_left v m l)
       where
         none_left : (v m : ℕ) → m ≤ v → m - v ≡ 0
         none_left v m l = omega arith
