@@ -106,11 +106,11 @@ returns_3 c =
 
 returns_4 : tie.Need-returns-then-not-pair_dead
 unfolding ◌then◌
-returns_4 c = after_v c.before.before.before.before _ (simp (sym (tested c.before) ∙ not-true _ c.if-not-pair_dead.true) refl)
+returns_4 c = after_v c.before.before.before.before _ (simp (sym (tested c.before) ∙ c.if-not-pair_dead.true) refl)
 
 returns_5 : tie.Need-returns
 unfolding ◌then◌
-returns_5 c = after_v c.before.before.before.before _ (simp (sym (tested c.before) ∙ not-false _ c.if-not-pair_dead.false) refl)
+returns_5 c = after_v c.before.before.before.before _ (simp (sym (tested c.before) ∙ c.if-not-pair_dead.false) refl)
 
 pair_dead_requires : tie.Need-pair_dead-requires
 pair_dead_requires c κs =

@@ -75,11 +75,11 @@ closed c =
 loop_holds : tie.Need-loop-here-init invariant_loop decreases_loop invariant_nodes decreases_nodes
 loop_holds c =
     under_as _ _ _ _ _ _ _ _ c.nodes.invariant _
-    (sym (tree_closing _ _ _ _ _ _ _ c.if-claim-next.false c.if-claim-next-2.false) ∙ sym c.closing-read.ensures ∙ closed c ∙ ap (λ (x : Fault). read_to x.place-here) (sym (closed c)))
+    (sym (tree_closing _ _ _ _ _ _ _ c.if-claim-next.false c.if-claim-next-2.false) ∙ sym c.closing-read.ensures ∙ closed c ∙ ap (λ (x : Fault). read_to x.place) (sym (closed c)))
 
 -- some choice is left to be taken back
 deep : (c : tie.In-loop-here invariant_loop decreases_loop invariant_nodes decreases_nodes) →
-    c.args.w.depth < c.loop.here.depth
+    c.args.w.depth < c.loop-here.here.depth
 deep c = under_deep _ _ _ _ _ _ _ _ c.loop-here.invariant c.loop-here-test.true
 
 -- it is a choice, and so its place in the order is one of 2n
@@ -111,7 +111,7 @@ nodes_again_2 c =
 -- a closing takes three bytes
 nodes_less_2 : tie.Need-nodes-smaller invariant_loop decreases_loop invariant_nodes decreases_nodes
 nodes_less_2 c =
-    let after : c.closing-read.result.place ≡ c.nodes.next + 3 = ap (λ (x : Fault). x.place-here) (closed c.before.before.before.before.before.before.before.before.before.before.before.before) in
+    let after : c.closing-read.result.place ≡ c.nodes.next + 3 = ap (λ (x : Fault). x.place) (closed c.before.before.before.before.before.before.before.before.before.before.before.before) in
     omega (arith, after, c.if-claim-next.false)
 
 loop_less : tie.Need-loop-here-smaller invariant_loop decreases_loop invariant_nodes decreases_nodes
