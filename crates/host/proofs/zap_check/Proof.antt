@@ -15,7 +15,7 @@ place_fits c κs =
     omega (arith, most)
 
 returns : tie.Need-returns
-returns c = packed_as _ c.before.check.ensures c.pack.ensures
+returns c = packed_as _ c.check.ensures c.pack.ensures
 
 pub zap_check_spec : {M : Type 1} → statement M
 zap_check_spec = tie.close (tie.spec (λ c κs. search rules) place_fits returns)

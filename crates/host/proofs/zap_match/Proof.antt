@@ -11,12 +11,12 @@ use Rattle.host.proofs.zap_match.Tie as tie
 
 place_fits : tie.Need-pack-requires
 place_fits c κs =
-    let most = subst (λ (a : Answer). a.place ≤ 75323621) (sym c.before.before.find.ensures.returned) (matching_place _ _ _) in
+    let most = subst (λ (a : Answer). a.place ≤ 75323621) (sym c.find.ensures.returned) (matching_place _ _ _) in
     omega (arith, most)
 
 returns : tie.Need-returns
 returns c =
-    let e = c.before.before.before.find.ensures in
+    let e = c.find.ensures in
     let p = packed_as _ e.returned c.pack.ensures in
     (p.0, (p.1, e.buffer))
 

@@ -8,7 +8,7 @@ use Rattle.host.proofs.zap_read_table.Tie as tie
 
 returns : tie.Need-returns
 returns c =
-    let e = c.before.before.before.read_table.ensures in
+    let e = c.read_table.ensures in
     let p = packed_as _ (ap told e.returned) c.tell.ensures in
     (p.0, (p.1, e.buffer))
 

@@ -14,19 +14,16 @@ use Rattle.host.proofs.zap_summary.Tie as tie
 
 place_fits : tie.Need-pack-requires
 place_fits c κs =
-    let found = c.before.before.before.before.before.before.before.before in
-    let most = subst (λ (r : Figures). r.answer.place ≤ 261) (sym found.summary.ensures) (summing_place _) in
+    let most = subst (λ (r : Figures). r.answer.place ≤ 261) (sym c.summary-found.ensures) (summing_place _) in
     omega (arith, most)
 
 returns : tie.Need-returns
 returns c =
-    let stored = c.before.before.before.before in
-    let found = stored.before.before.before.before.before in
-    let e = found.summary.ensures in
+    let e = c.summary-found.ensures in
     let p = packed_as _ (ap (λ (r : Figures). r.answer) e) c.pack.ensures in (
       record {
         returned = p.0;
-        slice = stored.store_three.ensures ∙ ap (λ (r : Figures). stored_if_room (figures_of r) found.before.before.before.args.figures.now) e;
+        slice = c.store_three.ensures ∙ ap (λ (r : Figures). stored_if_room (figures_of r) c.args.figures.now) e;
       },
       p.1,
     )

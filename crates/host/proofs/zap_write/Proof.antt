@@ -8,7 +8,7 @@ use Rattle.host.proofs.zap_write.Tie as tie
 
 returns : tie.Need-returns
 returns c =
-    let e = c.before.before.before.write.ensures in
+    let e = c.write.ensures in
     let p = packed_as _ (ap told e.returned) c.tell.ensures in
     (p.0, (p.1, e.buffer))
 

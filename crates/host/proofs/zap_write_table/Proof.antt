@@ -10,11 +10,11 @@ use Rattle.host.proofs.zap_write_table.Tie as tie
 
 place_fits : tie.Need-pack-requires
 place_fits c κs =
-    subst (λ (a : Answer). a.place < 2 ^ 32) (sym c.before.before.write_table.ensures.returned) (table_writing_place _ _)
+    subst (λ (a : Answer). a.place < 2 ^ 32) (sym c.write_table.ensures.returned) (table_writing_place _ _)
 
 returns : tie.Need-returns
 returns c =
-    let e = c.before.before.before.write_table.ensures in
+    let e = c.write_table.ensures in
     let p = packed_as _ e.returned c.pack.ensures in
     (p.0, (p.1, e.buffer))
 
