@@ -1,3 +1,4 @@
+pub mod Lent
 pub mod Table
 pub mod Records
 pub mod Refused

@@ -4,7 +4,8 @@ use mathlib.Core.Path.{◌≡◌, refl, ap}
 use mathlib.Core.List.{List, [], ◌∷◌, flat_map}
 use contract.Lifetimes.{Lfts}
 use borrow.Fn.Kinds.{Dens, res_t, ended_of}
-use denote.Ref.{at_last}
+use denote.MutBor.{at_last}
+use Rattle.demands.proofs.Lent.{lending}
 use denote.Triple.Clauses.{AtExit}
 use lib.ListN.{replicate}
 use Rattle.bits.specs.Bits.{bit, number, every, any, smallest, or_next, or_zero}
@@ -33,18 +34,18 @@ twice_record = 0x46 ∷ 0x4E ∷ 2 ∷ 2 ∷ 2 ∷ 2 ∷ 0 ∷ 0 ∷ 1 ∷ 3 ∷
 
 -- the answer is 2: not 3, the largest and the first off cube's; not 0, that of another on cube than the named one
 pub smallest_of_the_named : (κs : Lfts 1) (a : Dens κs read_kinds.ps) (r : (res_t read_kinds.r κs).Denot) (s : AtExit (ended_of 1 read_kinds.ps read_kinds.r) κs)
-    → read.Post κs (at_last a.0 twice_record, tt) r s → r.answer ≡ refused_at 7 1 5 2
+    → read.Post κs (lending a.0 twice_record, tt) r s → r.answer ≡ refused_at 7 1 5 2
 unfolding bit every any cube_holds cubes_share some_cube least_with smallest or_next or_zero ◌then◌ byte_fault length_fault on_list off_list cube_code clash_code clash_pattern first_fault header_bytes header_fault record_fault reading
 smallest_of_the_named κs a r s p = ap (λ x. x.answer) p
 
 pub smallest_in_a_summary : (κs : Lfts 1) (a : Dens κs summary_kinds.ps) (r : (res_t summary_kinds.r κs).Denot) (s : AtExit (ended_of 1 summary_kinds.ps summary_kinds.r) κs)
-    → summary.Post κs (at_last a.0 twice_record, tt) r s → r.answer ≡ refused_at 7 1 5 2
+    → summary.Post κs (lending a.0 twice_record, tt) r s → r.answer ≡ refused_at 7 1 5 2
 unfolding bit every any cube_holds cubes_share some_cube least_with smallest or_next or_zero ◌then◌ byte_fault length_fault on_list off_list cube_code clash_code clash_pattern first_fault header_bytes header_fault record_fault summing
 smallest_in_a_summary κs a r s p = ap (λ x. x.answer) p
 
 -- and so from the writer, at the cube's place in its list
 pub smallest_when_written : (κs : Lfts 3) (a : Dens κs write_kinds.ps) (r : (res_t write_kinds.r κs).Denot) (s : AtExit (ended_of 3 write_kinds.ps write_kinds.r) κs)
-    → write.Post κs (2, (at_last a.1.0 (2 ∷ 0 ∷ 0 ∷ 1 ∷ []), (at_last a.1.1.0 (3 ∷ 0 ∷ 0 ∷ 1 ∷ []), (at_last a.1.1.1.0 (replicate 13 0), tt)))) r s → r ≡ refused_at 7 1 0 2
+    → write.Post κs (2, (lending a.1.0 (2 ∷ 0 ∷ 0 ∷ 1 ∷ []), (lending a.1.1.0 (3 ∷ 0 ∷ 0 ∷ 1 ∷ []), (at_last a.1.1.1.0 (replicate 13 0), tt)))) r s → r ≡ refused_at 7 1 0 2
 unfolding bit every any cube_holds cubes_share some_cube least_with smallest or_next or_zero by ◌or_else◌ cube_code clash_code clash_pattern first_fault few sizes cubes writing
 smallest_when_written κs a r s p = p.returned
 

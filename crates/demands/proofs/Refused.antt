@@ -4,7 +4,8 @@ use mathlib.Core.Path.{◌≡◌, refl, ap, ◌∙◌}
 use mathlib.Core.List.{List, [], ◌∷◌, ◌++◌, flat_map}
 use contract.Lifetimes.{Lfts}
 use borrow.Fn.Kinds.{Dens, res_t, ended_of}
-use denote.Ref.{at_last}
+use denote.MutBor.{at_last}
+use Rattle.demands.proofs.Lent.{lending}
 use denote.Triple.Clauses.{AtExit}
 use lib.ListN.{length, replicate}
 use Rattle.bits.specs.Bits.{bit, number, every, any, count, smallest, or_next, or_zero}
@@ -36,13 +37,13 @@ use Rattle.writer.proofs.write.Reads as write
 
 -- a reader that tests 6 before 5: of one input, the cube 02 02 names input 1 in both masks, and is refused by 5
 pub five_before_six : (κs : Lfts 1) (a : Dens κs read_kinds.ps) (r : (res_t read_kinds.r κs).Denot) (s : AtExit (ended_of 1 read_kinds.ps read_kinds.r) κs)
-    → read.Post κs (at_last a.0 (0x46 ∷ 0x4E ∷ 1 ∷ 1 ∷ 0 ∷ 2 ∷ 2 ∷ []), tt) r s → r.answer ≡ refused 5 1 5
+    → read.Post κs (lending a.0 (0x46 ∷ 0x4E ∷ 1 ∷ 1 ∷ 0 ∷ 2 ∷ 2 ∷ []), tt) r s → r.answer ≡ refused 5 1 5
 unfolding bit every any count some_cube ◌then◌ byte_fault length_fault on_list off_list cube_code first_fault header_bytes header_fault record_fault reading
 five_before_six κs a r s p = ap (λ x. x.answer) p
 
 -- a writer that leaves the buffer untouched: Conj's n and lists, and eleven zeros
 pub buffer_written : (κs : Lfts 3) (a : Dens κs write_kinds.ps) (r : (res_t write_kinds.r κs).Denot) (s : AtExit (ended_of 3 write_kinds.ps write_kinds.r) κs)
-    → write.Post κs (2, (at_last a.1.0 (3 ∷ 0 ∷ []), (at_last a.1.1.0 (0 ∷ 1 ∷ 0 ∷ 2 ∷ []), (at_last a.1.1.1.0 (replicate 11 0), tt)))) r s
+    → write.Post κs (2, (lending a.1.0 (3 ∷ 0 ∷ []), (lending a.1.1.0 (0 ∷ 1 ∷ 0 ∷ 2 ∷ []), (at_last a.1.1.1.0 (replicate 11 0), tt)))) r s
     → s.1.1.1.0.now ≡ conj_record
 unfolding bit every any count cube_holds cubes_share some_cube by ◌or_else◌ buffer_after cube_code clash_code first_fault record_bytes few sizes cubes fits writing smallest or_next or_zero clash_pattern least_with
 buffer_written κs a r s p = p.buffer
@@ -51,7 +52,7 @@ buffer_written κs a r s p = p.buffer
 
 pub checker_answers : (κs : Lfts 3) (a : Dens κs check_kinds.ps) (f g c : List ℕ) (answer : Answer) → checking f g c ≡ answer
     → (r : (res_t check_kinds.r κs).Denot) (s : AtExit (ended_of 3 check_kinds.ps check_kinds.r) κs)
-    → check.Post κs (at_last a.0 f, (at_last a.1.0 g, (at_last a.1.1.0 c, tt))) r s → r ≡ answer
+    → check.Post κs (lending a.0 f, (lending a.1.0 g, (lending a.1.1.0 c, tt))) r s → r ≡ answer
 checker_answers κs a f g c answer e r s p = p ∙ e
 
 -- on at every pattern, with as many inputs as Conj
@@ -96,7 +97,7 @@ delivered_as named bytes before after r answer left d e =
 pub matcher_answers : (κs : Lfts 3) (a : Dens κs find_kinds.ps) (f g before after : List ℕ) (answer : Answer)
     → (matching f g (length before) ≡ answer) × (buffer_after answer (claim_for f g) before ≡ after)
     → (r : (res_t find_kinds.r κs).Denot) (s : AtExit (ended_of 3 find_kinds.ps find_kinds.r) κs)
-    → find.Post κs (at_last a.0 f, (at_last a.1.0 g, (at_last a.1.1.0 before, tt))) r s → (r ≡ answer) × (s.1.1.0.now ≡ after)
+    → find.Post κs (lending a.0 f, (lending a.1.0 g, (at_last a.1.1.0 before, tt))) r s → (r ≡ answer) × (s.1.1.0.now ≡ after)
 matcher_answers κs a f g before after answer e r s p = delivered_as _ _ _ _ r answer after p e
 
 -- f is on where x2·x0' and off where x2', g on where y0·y1' and off where y0': the first wiring is x0 = y0', x1 = y2, x2 = y1'. With j
@@ -128,7 +129,7 @@ wrong_matchers_ruled_out = ((refl, refl), ((refl, refl), ((refl, refl), ((refl, 
 
 -- a fault call that hands back bytes of f for a fault of g: Conj is sound, and g's first cube is at fault
 pub fault_of_g : (κs : Lfts 1) (a : Dens κs at_fault_kinds.ps) (r : (res_t at_fault_kinds.r κs).Denot) (s : AtExit (ended_of 1 at_fault_kinds.ps at_fault_kinds.r) κs)
-    → at_fault.Post κs (at_last a.0 conj_record, (at_last a.1.0 (0x46 ∷ 0x4E ∷ 1 ∷ 1 ∷ 0 ∷ 2 ∷ 2 ∷ []), tt)) r s
-    → (r.ref_ptr ≡ (a.1.0.ptr.0, 5 + a.1.0.ptr.1)) × (r.now ≡ 2 ∷ 2 ∷ [])
+    → at_fault.Post κs (lending a.0 conj_record, (lending a.1.0 (0x46 ∷ 0x4E ∷ 1 ∷ 1 ∷ 0 ∷ 2 ∷ 2 ∷ []), tt)) r s
+    → (r.ref_ptr ≡ (a.1.0.ref_ptr.0, 5 + a.1.0.ref_ptr.1)) × (r.now ≡ 2 ∷ 2 ∷ [])
 unfolding bit every any count cube_holds cubes_share some_cube ◌then◌ byte_fault length_fault on_list off_list cube_code clash_code first_fault header_bytes header_fault record_fault bytes_at_fault memory_at_fault smallest or_next or_zero clash_pattern least_with
 fault_of_g κs a r s p = (p.memory, p.bytes)

@@ -6,7 +6,8 @@ use mathlib.Core.List.{List, [], ◌∷◌, ◌++◌}
 use contract.Lifetimes.{Lfts}
 use borrow.Author.Tests.{eqb-false}
 use borrow.Fn.Kinds.{Dens, res_t, ended_of}
-use denote.Ref.{at_last}
+use denote.MutBor.{at_last}
+use Rattle.demands.proofs.Lent.{lending}
 use denote.Triple.Clauses.{AtExit}
 use lib.ListN.{get_or, replicate}
 use Rattle.answers.specs.declared.Answer.{Answer}
@@ -26,7 +27,7 @@ use Rattle.records.proofs.summary.Reads as summary
 module _ (κs : Lfts 3) (a : Dens κs check_kinds.ps) (r : (res_t check_kinds.r κs).Denot) (s : AtExit (ended_of 3 check_kinds.ps check_kinds.r) κs) where
   -- the outcome is one that the contract allows for these three
   abbrev Checked : List ℕ → List ℕ → List ℕ → Type 0
-  Checked f g claim = check.Post κs (at_last a.0 f, (at_last a.1.0 g, (at_last a.1.1.0 claim, tt))) r s
+  Checked f g claim = check.Post κs (lending a.0 f, (lending a.1.0 g, (lending a.1.1.0 claim, tt))) r s
 
   -- one that refuses all claims: 01's claim for Conj and Disj is accepted
   pub not_refusing_all : Checked conj_record disj_record conj_disj_claim → r.code ≡ 0
@@ -39,7 +40,7 @@ module _ (κs : Lfts 3) (a : Dens κs check_kinds.ps) (r : (res_t check_kinds.r 
 -- ---- the matcher, for Conj and Disj and a buffer of eight bytes
 
 module _ (κs : Lfts 3) (a : Dens κs find_kinds.ps) (r : (res_t find_kinds.r κs).Denot) (s : AtExit (ended_of 3 find_kinds.ps find_kinds.r) κs)
-    (p : find.Post κs (at_last a.0 conj_record, (at_last a.1.0 disj_record, (at_last a.1.1.0 (replicate 8 0xEE), tt))) r s) where
+    (p : find.Post κs (lending a.0 conj_record, (lending a.1.0 disj_record, (at_last a.1.1.0 (replicate 8 0xEE), tt))) r s) where
   abbrev after : List ℕ
   after = s.1.1.0.now
 
@@ -57,7 +58,7 @@ module _ (κs : Lfts 3) (a : Dens κs find_kinds.ps) (r : (res_t find_kinds.r κ
 -- ---- the summary, for Conj
 
 module _ (κs : Lfts 1) (a : Dens κs summary_kinds.ps) (r : (res_t summary_kinds.r κs).Denot) (s : AtExit (ended_of 1 summary_kinds.ps summary_kinds.r) κs)
-    (p : summary.Post κs (at_last a.0 conj_record, tt) r s) where
+    (p : summary.Post κs (lending a.0 conj_record, tt) r s) where
   -- one with invented counts: these are 1, 3 and 2, and no others
   pub no_invented_counts : (r.on ≡ 1) × (r.off ≡ 3) × (r.used ≡ 2)
   no_invented_counts =

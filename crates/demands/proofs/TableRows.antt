@@ -8,7 +8,8 @@ use mathlib.Core.Path.{◌≡◌, refl}
 use mathlib.Core.List.{List, [], ◌∷◌, ◌++◌}
 use contract.Lifetimes.{Lfts}
 use borrow.Fn.Kinds.{Dens, res_t, ended_of}
-use denote.Ref.{at_last}
+use denote.MutBor.{at_last}
+use Rattle.demands.proofs.Lent.{lending}
 use denote.Triple.Clauses.{AtExit}
 use lib.ListN.{length, replicate}
 use Rattle.bits.specs.Bits.{bit, number, every, any, count, smallest, or_next, or_zero}
@@ -188,10 +189,10 @@ table_rows_right = ((refl, refl), ((refl, refl), ((refl, refl), ((refl, refl), (
 
 pub read_row_forced : (text before after : List ℕ) (answer : Answer) → Right (reads_of text before answer after)
     → (κs : Lfts 2) (a : Dens κs read_kinds.ps) (r : (res_t read_kinds.r κs).Denot) (s : AtExit (ended_of 2 read_kinds.ps read_kinds.r) κs)
-    → read_table.Post κs (at_last a.0 text, (at_last a.1.0 before, tt)) r s → (r ≡ answer) × (s.1.0.now ≡ after)
+    → read_table.Post κs (lending a.0 text, (at_last a.1.0 before, tt)) r s → (r ≡ answer) × (s.1.0.now ≡ after)
 read_row_forced text before after answer e κs a r s p = delivered_as _ _ _ _ r answer after p e
 
 pub write_row_forced : (bytes before after : List ℕ) (answer : Answer) → Right (writes_of bytes before answer after)
     → (κs : Lfts 2) (a : Dens κs write_kinds.ps) (r : (res_t write_kinds.r κs).Denot) (s : AtExit (ended_of 2 write_kinds.ps write_kinds.r) κs)
-    → write_table.Post κs (at_last a.0 bytes, (at_last a.1.0 before, tt)) r s → (r ≡ answer) × (s.1.0.now ≡ after)
+    → write_table.Post κs (lending a.0 bytes, (at_last a.1.0 before, tt)) r s → (r ≡ answer) × (s.1.0.now ≡ after)
 write_row_forced bytes before after answer e κs a r s p = delivered_as _ _ _ _ r answer after p e
