@@ -21,16 +21,17 @@ fail() {
 # What the archive is made of, and what the binary is made of besides.
 archived() {
     echo crates.txt
-    for crate in host $(sed -n 's/^host://p' crates.txt); do echo "crates/$crate"; done
+    for crate in host_c $(sed -n 's/^host_c staticlib://p' crates.txt); do echo "crates/$crate"; done
 }
 compiled='cli/Cargo.toml cli/Cargo.lock cli/src calls/Cargo.toml calls/build.rs calls/src'
 
 # fresh STAMP PATH..: nothing below the paths has changed since the stamp. What counts is not the date of a file's content but
-# that of its last change, so that a file which comes with an old date is seen too; one that goes changes its folder.
+# that of its last change, so that a file which comes with an old date is seen too; one that goes changes its folder. What rt
+# itself makes is no source: the folder out/ of a crate, by which the crate's own folder changes.
 fresh() {
     stamp=$1
     shift
-    [ -e "$stamp" ] && [ -z "$(find "$@" -cnewer "$stamp" 2>&1 | head -n 1)" ]
+    [ -e "$stamp" ] && [ -z "$(find "$@" -path 'crates/*/out' -prune -o -path 'crates/*' ! -path 'crates/*/*' -o -cnewer "$stamp" -print 2>&1 | head -n 1)" ]
 }
 
 # stamped STAMP COMMAND..: runs the command. The stamp is as old as its start, so that what changes meanwhile counts as changed,
@@ -47,20 +48,21 @@ stamped() {
 prove() {
     # shellcheck disable=SC2046 # a word for each crate
     set -- $(archived)
-    crates=$(($# - 1)) began=$(date +%s) past=0
+    crates=$(($# - 2)) began=$(date +%s) past=0 crate=
     say "the command's $crates crates are proved and built first; this takes some minutes the first time"
     rm -f "$built/proved"
-    { rt staticlib host </dev/null 2>&1 && : >"$built/proved"; } | tee "$log" | while IFS= read -r line; do
+    { tools/archive host </dev/null 2>&1 && : >"$built/proved"; } | tee "$log" | while IFS= read -r line; do
         case $line in
-        'rt: '*' proved ('*) line=${line#rt: } ;;
-        'rt: target/staticlib/'*) line='host proved and its archive written' ;;
+        'rt: chose '*' for '*) crate=${line##* for } && continue ;;
+        'logic=proved '*) ;;
         *) continue ;;
         esac
-        past=$((past + 1))
-        case $line in
-        *'(unchanged '*) ;;
-        *) say "$line, $past of $crates, $(($(date +%s) - began)) s so far" ;;
+        case $crate in
+        host) continue ;;
+        host_c) line='host proved and its archive written' past=$crates ;;
+        *) line="$crate proved" past=$((past + 1)) ;;
         esac
+        say "$line, $past of $crates, $(($(date +%s) - began)) s so far"
     done
     [ -e "$built/proved" ]
 }

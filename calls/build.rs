@@ -23,7 +23,7 @@ fn main() {
         println!("cargo:rerun-if-changed={}", archive.display());
         println!("cargo:rustc-link-lib=static={name}");
         if !archive.exists() {
-            panic!("{} is missing: rt staticlib {name}, or set ZAP_ARCHIVES", archive.display());
+            panic!("{} is missing: tools/archive {name}, or set ZAP_ARCHIVES", archive.display());
         }
     }
 }

@@ -1,7 +1,7 @@
 /*
  * The matcher, the checker, the summary, the writer and tables, for C and C++.
  *
- * `rt staticlib host` writes target/staticlib/libhost.a, which holds them. How
+ * `tools/archive host` writes target/staticlib/libhost.a, which holds them. How
  * functions and claims are written, byte by byte, is told in docs/FORMATS.md.
  *
  * The caller keeps this: each pointer is valid for its length, and not null even

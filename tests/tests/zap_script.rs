@@ -16,15 +16,25 @@ use zap_tests::command::{repository, Folder, Ran};
 // ---- A project ----
 
 /// What the script asks for: the words of rt, and those of cargo.
-const RT: &str = "rt staticlib host";
+const RT: &str = "rt lib";
 const CARGO: &str = "cargo build --release --offline --manifest-path cli/Cargo.toml --target-dir";
 
-/// As rt does it: a line for each crate, one for the archive, and much that is neither.
+/// As rt does it: a line where a crate begins, one where it is proved, much that is neither, and the archive.
 const PROVES: &str = "
+echo 'rt: chose --jobs 2 for a'
 echo 'fn a::f: proved'
-echo 'rt: a proved (1 s)'
-mkdir -p target/staticlib && date >target/staticlib/libhost.a
-echo 'rt: target/staticlib/libhost.a has the functions of host'";
+echo 'logic=proved functions=1'
+echo 'rt: chose --jobs 2 for host'
+echo 'logic=proved functions=1'
+echo 'rt: chose --jobs 2 for host_c'
+mkdir -p out && date >out/libhost_c.a
+echo 'logic=proved functions=1'";
+
+/// What rt says of a crate that it proves, and nothing where that was proved before.
+const PROVES_A: &str = "
+echo 'rt: chose --jobs 2 for a'
+echo 'fn a::f: proved'
+echo 'logic=proved functions=1'";
 
 /// The binary tells its folder, its words and its standard input, and ends with 7.
 const COMPILES: &str = "
@@ -50,10 +60,11 @@ impl Project {
         let tools = [folder.path().join("tools"), folder.path().join("system")];
         let project = Project { path: env::join_paths(tools).expect("a path"), folder };
         for (name, text) in [
-            ("crates.txt", "# name, uses\na:\nother: a\nhost: a\nafter: host a\n"),
+            ("crates.txt", "# name, uses\na:\nother: a\nhost: a\nhost_c staticlib: host a\nafter: host a\n"),
             ("crates/a/src/lib.rt", "a"),
             ("crates/a/specs/A.antt", "a"),
             ("crates/host/src/lib.rt", "host"),
+            ("crates/host_c/src/lib.rt", "host_c"),
             ("crates/other/src/lib.rt", "other"),
             ("cli/Cargo.toml", "toml"),
             ("cli/Cargo.lock", "lock"),
@@ -65,8 +76,10 @@ impl Project {
         ] {
             project.write(name, text);
         }
-        let script = project.file("zap");
-        fs::copy(repository().join("zap"), &script).expect("the script");
+        project.write("tools/archive", "");
+        for script in ["zap", "tools/archive"] {
+            fs::copy(repository().join(script), project.file(script)).expect("a script");
+        }
         project.tool("rt", PROVES);
         project.tool("cargo", COMPILES);
         // The system's own tools, without an rt or a cargo that may be among them.
@@ -188,7 +201,7 @@ fn without_seconds(text: &str) -> String {
 
 const FIRST_USE: &str = "\
 zap: the command's 2 crates are proved and built first; this takes some minutes the first time
-zap: a proved (1 s), 1 of 2
+zap: a proved, 1 of 2
 zap: host proved and its archive written, 2 of 2
 zap: compiling the command
 ";
@@ -222,14 +235,14 @@ fn progress_as_it_comes() {
     let project = Project::new();
     let go = project.folder.path().join("go");
     let waits = format!("\nwhile [ ! -e '{}' ]; do sleep 0.01; done", go.display());
-    project.tool("rt", &format!("\necho 'rt: a proved (1 s)'{waits}{PROVES}"));
+    project.tool("rt", &format!("{PROVES_A}{waits}{}", PROVES.replace(PROVES_A, "")));
     let mut command = project.command(["word"]);
     command.stdin(Stdio::null()).stdout(Stdio::null()).stderr(Stdio::piped());
     let mut child = command.spawn().expect("it can be run");
     let mut lines = BufReader::new(child.stderr.take().expect("piped")).lines();
     let mut line = || without_seconds(&lines.next().expect("a line").expect("text"));
     assert!(line().starts_with("zap: the command's 2 crates are proved and built first"));
-    assert_eq!(line(), "zap: a proved (1 s), 1 of 2\n");
+    assert_eq!(line(), "zap: a proved, 1 of 2\n");
     fs::write(go, "").expect("a new file");
     assert_eq!(child.wait().expect("it ends").code(), Some(7));
 }
@@ -238,10 +251,10 @@ fn progress_as_it_comes() {
 #[test]
 fn crates_that_are_unchanged() {
     let project = Project::built();
-    project.tool("rt", &PROVES.replace("(1 s)", "(unchanged since it was proved)"));
+    project.tool("rt", &PROVES.replace(PROVES_A, ""));
     project.write("crates/host/src/lib.rt", "other");
     let err = without_seconds(&project.zap().err);
-    assert_eq!(err, FIRST_USE.replace("zap: a proved (1 s), 1 of 2\n", ""));
+    assert_eq!(err, FIRST_USE.replace("zap: a proved, 1 of 2\n", ""));
 }
 
 #[test]
@@ -301,7 +314,8 @@ fn changes_and_what_they_build() {
         ("rm target/staticlib/libhost.a && echo more >>cli/src/main.rs", both),
         ("rm -r cli/target", both),
         ("rm -r target cli/target", both),
-        // A crate that host does not use, and what is no source at all.
+        // What rt makes anew, a crate that host does not use, and what is no source at all.
+        ("rm -r crates/host_c/out && mkdir crates/host_c/out && echo made >crates/host_c/out/new", &[]),
         ("echo more >>crates/other/src/lib.rt", &[]),
         ("echo more >README.md && mkdir tests && echo new >tests/new", &[]),
     ] {
@@ -310,7 +324,7 @@ fn changes_and_what_they_build() {
         project.expect(&[], change);
     }
     // One that host comes to use is one of its sources from then on.
-    project.write("crates.txt", "a:\nother: a\nhost: other a\n");
+    project.write("crates.txt", "a:\nother: a\nhost: other a\nhost_c staticlib: host other a\n");
     project.expect(both, "another crate");
     project.write("crates/other/src/lib.rt", "changed");
     project.expect(both, "a change of it");
@@ -593,7 +607,7 @@ fn a_first_use_that_is_killed() {
     let project = Project::new();
     project.tool("rt", &format!("{PROVES}\nsleep 20"));
     let child = start(&project);
-    wait_for_file(&project.file("target/staticlib/libhost.a"));
+    wait_for_file(&project.file("crates/host_c/out/libhost_c.a"));
     kill_all(child);
     assert_eq!(project.asked(), [RT]);
 
