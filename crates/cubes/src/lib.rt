@@ -28,6 +28,7 @@ pub fn shares(pos: u8, neg: u8, pos2: u8, neg2: u8) -> Shared
 }
 
 // The lesser of two patterns, as far as there are two.
+#[tactic(auto, unfolding(bits::specs::Bits::lesser, crate::specs::Values::pattern_of))]
 pub fn lesser(a: Shared, b: Shared) -> Shared
     ensures { pattern_of result ≡ lesser (pattern_of a) (pattern_of b) }
 {

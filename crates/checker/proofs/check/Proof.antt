@@ -39,16 +39,6 @@ by_claim : (c : tie.Else-both-ne0) (r : Answer) → let a = c.args in
 unfolding checking
 by_claim c r e = e ∙ sym (or_else_next _ _ (ap (λ (a : Answer). a.code) (sym c.both-both.ensures) ∙ c.if-both-ne0.false))
 
-returns_2 : tie.Need-returns-then-fault-ne0
-returns_2 c =
-    by_claim c.before.before.before.before _ (by_stop 3 _ _ _ _ c.claim_fault-fault.ensures c.if-fault-ne0.true c.refused_by.ensures)
-
-returns_3 : tie.Need-returns
-returns_3 c =
-    let len = length c.args.claim.now in
-    by_claim c.before.before.before.before.before.before _
-    (by_next 3 _ _ _ _ c.claim_fault-fault.ensures c.if-fault-ne0.false (c.accepted.ensures ∙ ap (λ (k : ℕ). accepted k len) c.kind.ensures))
-
 pub check_spec : {M : Type 1} → statement M
 check_spec =
     tie.close
@@ -59,8 +49,11 @@ check_spec =
     both_sound _ _ (λ i. (c.shared_slice_known-1.given i).fits) (λ i. (c.shared_slice_known-2-1.given i).fits)
     (ap (λ (a : Answer). a.code) (sym c.both-both.ensures) ∙ c.if-both-ne0.false))
     (λ c κs. search rules)
-    returns_2
-    (λ c. not_empty _ _ _ (sound_as c.claim_fault-fault.ensures c.if-fault-ne0.false))
+    (λ c. by_claim c.before.before.before.before _ (by_stop 3 _ _ _ _ c.claim_fault-fault.ensures (assumption c) c.refused_by.ensures))
+    (λ c. not_empty _ _ _ (sound_as c.claim_fault-fault.ensures (assumption c)))
     (λ c κs. search rules)
     (λ c κs. search rules)
-    returns_3)
+    (λ c.
+    let len = length c.args.claim.now in
+    by_claim c.before.before.before.before.before.before _
+    (by_next 3 _ _ _ _ c.claim_fault-fault.ensures (assumption c) (c.accepted.ensures ∙ ap (λ (k : ℕ). accepted k len) c.kind.ensures))))

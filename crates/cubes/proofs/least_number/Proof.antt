@@ -21,9 +21,9 @@ loop_again : tie.Need-loop-at-preserved invariant_loop decreases_loop
 loop_again c =
     let byte = c.shared_slice_known-1.given in
     let here = c.shared_number-here in
-    least_goes _ _ _ _ _ c.loop-at.invariant c.loop-at-test.true here.result c.if-here-least.least
+    least_goes _ _ _ _ _ c.loop-at.invariant c.loop-at-test.true here.result _
     (here.ensures ∙ ap number_of (least_apart _ _ _ _ _ _ c.ranges.pos.fits (byte _).fits c.joined-own.ensures c.cube_at.ensures))
-    (⊎_elim (λ w. omega arith) (λ w. omega arith) c.if-here-least.branch-raw)
+    (grind arith)
 
 pub least_number_spec : {M : Type 1} → statement M
 least_number_spec =
