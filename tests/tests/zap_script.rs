@@ -344,7 +344,8 @@ fn changes_while_it_builds() {
         project.tool("cargo", &format!("{cargo}{COMPILES}"));
         shell(&project, "echo more >>crates/a/src/lib.rt");
     };
-    renew(&once("echo more >>crates/host/src/lib.rt"), "");
+    // rt works in the folder of host_c.
+    renew(&once("echo more >>../host/src/lib.rt"), "");
     project.expect(&[RT, CARGO], "a crate changes while it is proved");
     project.expect(&[RT, CARGO], "after that");
     project.expect(&[], "and again");
@@ -359,7 +360,7 @@ fn changes_while_it_builds() {
     project.expect(&[CARGO], "after that");
     project.expect(&[], "and again");
 
-    renew(&once("echo more >>cli/src/main.rs"), "");
+    renew(&once("echo more >>../../cli/src/main.rs"), "");
     project.expect(&[RT, CARGO], "the command changes before it is compiled");
     project.expect(&[], "after that");
 }
