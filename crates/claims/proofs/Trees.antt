@@ -34,6 +34,7 @@ module _ (right_of : ℕ → Tree → Bool) where
   -- each choice has one that is right for it
   tree_of : (l : List ℕ) (ts : Trees) → right_each right_of l ts ≡ true → (b : ℕ) → In b l → (t : Tree) × (right_of b t ≡ true)
   unfolding right_each In
+  tree_of [] ts e b i = elim i [ ]
   tree_of (a ∷ l) end e b i = absurd (false≢true e)
   tree_of (a ∷ l) (t and ts) e b (inl p) = (t, ap (λ (a : ℕ). right_of a t) p ∙ both_left (right_of a t) (right_each right_of l ts) e)
   tree_of (a ∷ l) (t and ts) e b (inr i) = tree_of l ts (both_right (right_of a t) (right_each right_of l ts) e) b i

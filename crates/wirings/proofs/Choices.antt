@@ -63,6 +63,7 @@ inverted_choice n small j h = (choice_test n (j + 16) (inr (omega arith)), omega
 -- the choices are the bytes of the rule
 in_from : (j k b : ℕ) → In b (choices_from j k) → Choice j k b
 unfolding In choices_from
+in_from j zero b i = elim i [ ]
 in_from j (suc k) b (inl e) = inl (omega arith)
 in_from j (suc k) b (inr (inl e)) = inr (omega arith)
 in_from j (suc k) b (inr (inr i)) =

@@ -37,6 +37,7 @@ rank_inverted j h = ap {B = ℕ} (λ (t : Bool). 2 * input_of (j + 16) + cond t 
 -- among the choices from input j on, none has a lower rank than j
 rank_from : (j k b : ℕ) → j + k ≤ 16 → In b (choices_from j k) → 2 * j ≤ rank b
 unfolding In choices_from
+rank_from j zero b h i = elim i [ ]
 rank_from j (suc k) b h (inl e) = omega (arith, ap rank e, rank_plain j (omega arith))
 rank_from j (suc k) b h (inr (inl e)) = omega (arith, ap rank e, rank_inverted j (omega arith))
 rank_from j (suc k) b h (inr (inr i)) = omega (arith, rank_from (suc j) k b (omega arith) i)

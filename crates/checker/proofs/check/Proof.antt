@@ -26,31 +26,28 @@ not_empty f g c e = go (leb (length c) 0) refl _ e
     go true p rest h = absurd (omega (arith, h))
     go false p rest h = leb-false _ _ p
 
-returns : tie.Need-returns
+returns : tie.Need-returns-then-both-ne0
 unfolding checking
 returns c =
-    let e = c.before.before.both.ensures in
-    e ∙ sym (or_else_stop _ _ (λ z. c.if1.true (ap (λ (a : Answer). a.code) e ∙ z)))
+    let e = c.both-both.ensures in
+    e ∙ sym (or_else_stop _ _ (λ z. c.if-both-ne0.true (ap (λ (a : Answer). a.code) e ∙ z)))
 
 -- both functions are accepted, so the claim decides
-by_claim : (c : tie.Else1) (r : Answer) → let a = c.before.before.before.before.before.before.args in
+by_claim : (c : tie.Else-both-ne0) (r : Answer) → let a = c.args in
     r ≡ by 3 (claim_fault a.f.now a.g.now a.claim.now) (accepted (kind_of (get_or a.claim.now 0 0)) (length a.claim.now))
     → r ≡ checking a.f.now a.g.now a.claim.now
 unfolding checking
-by_claim c r e = e ∙ sym (or_else_next _ _ (ap (λ (a : Answer). a.code) (sym c.before.before.both.ensures) ∙ c.if1.false))
+by_claim c r e = e ∙ sym (or_else_next _ _ (ap (λ (a : Answer). a.code) (sym c.both-both.ensures) ∙ c.if-both-ne0.false))
 
-returns_2 : tie.Need-returns-2
+returns_2 : tie.Need-returns-then-fault-ne0
 returns_2 c =
-    let t = c.before in
-    by_claim t.before.before.before _ (by_stop 3 _ _ _ _ t.before.before.claim_fault.ensures t.if2.true c.refused_by.ensures)
+    by_claim c.before.before.before.before _ (by_stop 3 _ _ _ _ c.claim_fault-fault.ensures c.if-fault-ne0.true c.refused_by.ensures)
 
-returns_3 : tie.Need-returns-3
+returns_3 : tie.Need-returns
 returns_3 c =
-    let e₂ = c.before.before.before in
-    let e₁ = e₂.before.before.before in
-    let len = length e₁.before.before.before.before.before.before.args.claim.now in
-    by_claim e₁ _
-    (by_next 3 _ _ _ _ e₂.before.before.claim_fault.ensures e₂.if2.false (c.accepted.ensures ∙ ap (λ (k : ℕ). accepted k len) c.before.kind.ensures))
+    let len = length c.args.claim.now in
+    by_claim c.before.before.before.before.before.before _
+    (by_next 3 _ _ _ _ c.claim_fault-fault.ensures c.if-fault-ne0.false (c.accepted.ensures ∙ ap (λ (k : ℕ). accepted k len) c.kind.ensures))
 
 pub check_spec : {M : Type 1} → statement M
 check_spec =
@@ -59,12 +56,11 @@ check_spec =
     (λ c κs. search rules)
     returns
     (λ c κs.
-    let known = c.before.before.before in
-    both_sound _ _ (λ i. (known.before.before.shared_slice_known.given i).fits) (λ i. (known.before.shared_slice_known2.given i).fits)
-    (ap (λ (a : Answer). a.code) (sym c.before.before.both.ensures) ∙ c.if1.false))
+    both_sound _ _ (λ i. (c.shared_slice_known-1.given i).fits) (λ i. (c.shared_slice_known-2-1.given i).fits)
+    (ap (λ (a : Answer). a.code) (sym c.both-both.ensures) ∙ c.if-both-ne0.false))
     (λ c κs. search rules)
     returns_2
-    (λ c. not_empty _ _ _ (sound_as c.before.before.before.claim_fault.ensures c.before.if2.false))
+    (λ c. not_empty _ _ _ (sound_as c.claim_fault-fault.ensures c.if-fault-ne0.false))
     (λ c κs. search rules)
     (λ c κs. search rules)
     returns_3)

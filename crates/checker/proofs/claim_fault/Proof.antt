@@ -12,31 +12,28 @@ use Rattle.checker.proofs.claim_fault.Statement.{statement}
 use Rattle.checker.proofs.claim_fault.Tie as tie
 
 -- the first byte is there
-first : (c : tie.Else1) → 0 < length c.before.before.before.before.args.claim.now
-first c = omega (arith, c.if1.false)
+first : (c : tie.Else-claim-eq0) → 0 < length c.args.claim.now
+first c = omega (arith, c.if-claim-eq0.false)
 
-returns : tie.Need-returns
+returns : tie.Need-returns-then-claim-eq0
 unfolding claim_fault
 returns c =
-    let none = c.if1.true in
+    let none = c.if-claim-eq0.true in
     simp (le-leb _ 0 (le_of_eq none)) (ap (fault 1) (sym none))
 
-returns_2 : tie.Need-returns-2
+returns_2 : tie.Need-returns-then-claim-eq77
 unfolding claim_fault
-returns_2 c = let t = c.before in simp (lt-leb _ 0 (first t.before.before), eq-eqb _ _ t.if2.true) c.match_fault.ensures
+returns_2 c = simp (lt-leb _ 0 (first c.before.before.before), eq-eqb _ _ c.if-claim-eq77.true) c.match_fault.ensures
 
-returns_3 : tie.Need-returns-3
+returns_3 : tie.Need-returns-then-claim-eq82
 unfolding claim_fault
 returns_3 c =
-    let t = c.before in
-    let e₂ = t.before.before in
-    simp (lt-leb _ 0 (first e₂.before.before), ne_eqb _ _ e₂.if2.false, eq-eqb _ _ t.if3.true) c.refusal_fault.ensures
+    simp (lt-leb _ 0 (first c.before.before.before.before.before), ne_eqb _ _ c.if-claim-eq77.false, eq-eqb _ _ c.if-claim-eq82.true) c.refusal_fault.ensures
 
-returns_4 : tie.Need-returns-4
+returns_4 : tie.Need-returns
 unfolding claim_fault
 returns_4 c =
-    let e₂ = c.before.before in
-    simp (lt-leb _ 0 (first e₂.before.before), ne_eqb _ _ e₂.if2.false, ne_eqb _ _ c.if3.false)
+    simp (lt-leb _ 0 (first c.before.before.before.before), ne_eqb _ _ c.if-claim-eq77.false, ne_eqb _ _ c.if-claim-eq82.false)
 
 pub claim_fault_spec : {M : Type 1} → statement M
 claim_fault_spec =

@@ -23,109 +23,102 @@ room : (c : tie.Start) → length c.args.claim.now < 2 ^ 64
 room c = omega arith
 
 -- s is there, and 0 or 1
-node : (c : tie.Else1) → let a = c.before.before.before.before.before.before.args in Byte a.claim.now a.node 0 1
-node c = byte_sound _ _ 0 1 14 (sound_as c.before.before.byte_fault.ensures c.if1.false)
+node : (c : tie.Else-s-ne0) → let a = c.args in Byte a.claim.now a.node 0 1
+node c = byte_sound _ _ 0 1 14 (sound_as c.byte_fault-s.ensures c.if-s-ne0.false)
 
 -- the two lists
-ours : (c : tie.After-side) → let a = c.before.before.before.before.before.before.before.before.args in c.side.result.now ≡ side (get_or a.claim.now a.node 0) a.f.now
-ours c = c.side.ensures
+ours : (c : tie.After-side-ours) → let a = c.args in c.side-ours.result.now ≡ side (get_or a.claim.now a.node 0) a.f.now
+ours c = c.side-ours.ensures
 
-theirs : (c : tie.After-side2) → let a = c.before.before.before.before.before.before.before.before.before.before.before.args in
-    c.side2.result.now ≡ side (against a.q (get_or a.claim.now a.node 0)) a.g.now
+theirs : (c : tie.After-side-theirs) → let a = c.args in
+    c.side-theirs.result.now ≡ side (against a.q (get_or a.claim.now a.node 0)) a.g.now
 theirs c =
-    let a = c.before.before.before.before.before.before.before.before.before.before.before.args in
-    c.side2.ensures ∙ ap (λ (s : ℕ). side s a.g.now) c.before.against.ensures
+    let a = c.args in
+    c.side-theirs.ensures ∙ ap (λ (s : ℕ). side s a.g.now) c.against.ensures
 
 -- u and v
-first : (c : tie.After-index-fault) → let a = c.before.before.before.before.before.before.before.before.before.before.before.before.args in
-    c.index_fault.result ≡ u_fault a.f.now a.claim.now a.node
+first : (c : tie.After-index_fault-u) → let a = c.args in
+    c.index_fault-u.result ≡ u_fault a.f.now a.claim.now a.node
 first c =
-    let a = c.before.before.before.before.before.before.before.before.before.before.before.before.args in
-    c.index_fault.ensures ∙ ap (λ (l : List ℕ). index_fault a.claim.now (a.node + 1) (cubes_in l)) (ours c.before.before.before.before)
+    let a = c.args in
+    c.index_fault-u.ensures ∙ ap (λ (l : List ℕ). index_fault a.claim.now (a.node + 1) (cubes_in l)) (ours c.before.before.before.before)
 
-second : (c : tie.After-index-fault2) → let a = c.before.before.before.before.before.before.before.before.before.before.before.before.before.before.before.args in
-    c.index_fault2.result ≡ v_fault a.q a.g.now a.claim.now a.node
+second : (c : tie.After-index_fault-v) → let a = c.args in
+    c.index_fault-v.result ≡ v_fault a.q a.g.now a.claim.now a.node
 second c =
-    let a = c.before.before.before.before.before.before.before.before.before.before.before.before.before.before.before.args in
-    c.index_fault2.ensures ∙ ap (λ (l : List ℕ). index_fault a.claim.now (a.node + 2) (cubes_in l)) (theirs c.before.before.before.before)
+    let a = c.args in
+    c.index_fault-v.ensures ∙ ap (λ (l : List ℕ). index_fault a.claim.now (a.node + 2) (cubes_in l)) (theirs c.before.before.before.before)
 
 -- each is there, and below the number of cubes
-u_there : (c : tie.Else2) → let a = c.before.before.before.before.before.before.before.before.before.before.before.before.before.before.args in
+u_there : (c : tie.Else-u-ne0) → let a = c.args in
     Index a.claim.now (a.node + 1) (cubes_in (side (get_or a.claim.now a.node 0) a.f.now))
-u_there c = index_sound _ _ _ (sound_as (first c.before.before) c.if2.false)
+u_there c = index_sound _ _ _ (sound_as (first c.before.before) c.if-u-ne0.false)
 
-v_there : (c : tie.Else3) → let a = c.before.before.before.before.before.before.before.before.before.before.before.before.before.before.before.before.before.args in
+v_there : (c : tie.Else-v-ne0) → let a = c.args in
     Index a.claim.now (a.node + 2) (cubes_in (side (against a.q (get_or a.claim.now a.node 0)) a.g.now))
-v_there c = index_sound _ _ _ (sound_as (second c.before.before) c.if3.false)
+v_there c = index_sound _ _ _ (sound_as (second c.before.before) c.if-v-ne0.false)
 
 -- so the place after the closing fits the machine's word
-past_u : (c : tie.Else2) → c.before.before.before.before.before.before.before.before.before.before.before.before.before.before.args.node + 2 < 2 ^ 64
+past_u : (c : tie.Else-u-ne0) → c.args.node + 2 < 2 ^ 64
 past_u c = omega (arith, (u_there c).there, room c.before.before.before.before.before.before.before.before.before.before.before.before.before.before)
 
-past_v : (c : tie.Else3) → c.before.before.before.before.before.before.before.before.before.before.before.before.before.before.before.before.before.args.node + 3 < 2 ^ 64
+past_v : (c : tie.Else-v-ne0) → c.args.node + 3 < 2 ^ 64
 past_v c = omega (arith, (v_there c).there, room c.before.before.before.before.before.before.before.before.before.before.before.before.before.before.before.before.before)
 
 -- whether the pair is dead
-tested : (c : tie.After-pair-dead) → let a = c.before.before.before.before.before.before.before.before.before.before.before.before.before.before.before.before.before.before.before.before.args in
+tested : (c : tie.After-pair_dead) → let a = c.args in
     c.pair_dead.result ≡ named_dead a.w.n a.q a.f.now a.g.now a.claim.now (prefix a.w) a.node
 tested c =
-    let lists = c.before.before.before.before.before.before.before.before.before in
-    let a = lists.before.before.before.before.before.before.before.before.before.before.before.args in
+    let a = c.args in
     c.pair_dead.ensures
-    ∙ ap₂ (λ (l m : List ℕ). pair_test (dead a.w.n (prefix a.w)) l m (0, get_or a.claim.now (a.node + 1) 0, get_or a.claim.now (a.node + 2) 0)) (ours lists.before.before.before) (theirs lists)
+    ∙ ap₂ (λ (l m : List ℕ). pair_test (dead a.w.n (prefix a.w)) l m (0, get_or a.claim.now (a.node + 1) 0, get_or a.claim.now (a.node + 2) 0)) (ours c.before.before.before.before.before.before.before.before.before.before.before.before) (theirs c.before.before.before.before.before.before.before.before.before)
 
 -- after the first test, after the second, and after the third: what remains decides
-after_s : (c : tie.Else1) (r : Fault) → let a = c.before.before.before.before.before.before.args in
+after_s : (c : tie.Else-s-ne0) (r : Fault) → let a = c.args in
     let n = a.w.n in let q = a.q in let f = a.f.now in let g = a.g.now in let claim = a.claim.now in let w = prefix a.w in let at = a.node in
     r ≡ u_fault f claim at then (v_fault q g claim at then (cond (named_dead n q f g claim w at) sound (fault 17 at) then read_to (at + 3)))
     → r ≡ closing_fault n q f g claim w at
 after_s c r e =
-    let a = c.before.before.before.before.before.before.args in
-    then_met _ _ _ r c.before.before.byte_fault.ensures c.if1.false e
+    let a = c.args in
+    then_met _ _ _ r c.byte_fault-s.ensures c.if-s-ne0.false e
     ∙ sym (closing_steps a.w.n a.q a.f.now a.g.now a.claim.now (prefix a.w) a.node)
 
-after_v : (c : tie.Else3) (r : Fault) → let a = c.before.before.before.before.before.before.before.before.before.before.before.before.before.before.before.before.before.args in
+after_v : (c : tie.Else-v-ne0) (r : Fault) → let a = c.args in
     let n = a.w.n in let q = a.q in let f = a.f.now in let g = a.g.now in let claim = a.claim.now in let w = prefix a.w in let at = a.node in
     r ≡ cond (named_dead n q f g claim w at) sound (fault 17 at) then read_to (at + 3) → r ≡ closing_fault n q f g claim w at
 after_v c r e =
-    let e₂ = c.before.before.before in
-    after_s e₂.before.before.before.before.before.before.before.before r
-    (then_met _ _ _ r (first e₂.before.before) e₂.if2.false (then_met _ _ _ r (second c.before.before) c.if3.false e))
+    after_s c.before.before.before.before.before.before.before.before.before.before.before r
+    (then_met _ _ _ r (first c.before.before.before.before.before) c.if-u-ne0.false (then_met _ _ _ r (second c.before.before) c.if-v-ne0.false e))
 
-returns : tie.Need-returns
+returns : tie.Need-returns-then-s-ne0
 returns c =
-    let a = c.before.before.before.before.before.before.args in
-    then_ends _ _ _ c.before.before.byte_fault.ensures c.if1.true
+    let a = c.args in
+    then_ends _ _ _ c.byte_fault-s.ensures c.if-s-ne0.true
     ∙ sym (closing_steps a.w.n a.q a.f.now a.g.now a.claim.now (prefix a.w) a.node)
 
-returns_2 : tie.Need-returns-2
-returns_2 c = after_s c.before.before.before.before.before.before.before.before _ (then_ends _ _ _ (first c.before.before) c.if2.true)
+returns_2 : tie.Need-returns-then-u-ne0
+returns_2 c = after_s c.before.before.before.before.before.before.before.before _ (then_ends _ _ _ (first c.before.before) c.if-u-ne0.true)
 
-returns_3 : tie.Need-returns-3
+returns_3 : tie.Need-returns-then-v-ne0
 returns_3 c =
-    let e₂ = c.before.before.before in
-    after_s e₂.before.before.before.before.before.before.before.before _
-    (then_met _ _ _ _ (first e₂.before.before) e₂.if2.false (then_ends _ _ _ (second c.before.before) c.if3.true))
+    after_s c.before.before.before.before.before.before.before.before.before.before.before _
+    (then_met _ _ _ _ (first c.before.before.before.before.before) c.if-u-ne0.false (then_ends _ _ _ (second c.before.before) c.if-v-ne0.true))
 
-returns_4 : tie.Need-returns-4
+returns_4 : tie.Need-returns-then-not-pair_dead
 unfolding ◌then◌
-returns_4 c = after_v c.before.before.before.before _ (simp (sym (tested c.before) ∙ not-true _ c.if4.true) refl)
+returns_4 c = after_v c.before.before.before.before _ (simp (sym (tested c.before) ∙ c.if-not-pair_dead.true) refl)
 
-returns_5 : tie.Need-returns-5
+returns_5 : tie.Need-returns
 unfolding ◌then◌
-returns_5 c = after_v c.before.before.before.before _ (simp (sym (tested c.before) ∙ not-false _ c.if4.false) refl)
+returns_5 c = after_v c.before.before.before.before _ (simp (sym (tested c.before) ∙ c.if-not-pair_dead.false) refl)
 
-pair_dead_requires : tie.Need-pair-dead-requires
+pair_dead_requires : tie.Need-pair_dead-requires
 pair_dead_requires c κs =
-    let e₃ = c.before.before in
-    let e₂ = e₃.before.before.before in
-    let lists = e₂.before.before.before in
-    let start = lists.before.before.before.before.before.before.before.before.before.before.before in
-    let a = start.args in (
-      start.requires.0,
+    let a = c.args in (
+      c.requires.0,
       (
-        subst (λ (l : List ℕ). get_or a.claim.now (a.node + 1) 0 < cubes_in l) (sym (ours lists.before.before.before)) (u_there e₂).below,
-        subst (λ (l : List ℕ). get_or a.claim.now (a.node + 2) 0 < cubes_in l) (sym (theirs lists)) (v_there e₃).below,
+        subst (λ (l : List ℕ). get_or a.claim.now (a.node + 1) 0 < cubes_in l) (sym (ours c.before.before.before.before.before.before.before.before.before.before.before)) (u_there c.before.before.before.before.before).below,
+        subst (λ (l : List ℕ). get_or a.claim.now (a.node + 2) 0 < cubes_in l) (sym (theirs c.before.before.before.before.before.before.before.before)) (v_there c.before.before).below,
       ),
     )
 
@@ -136,10 +129,10 @@ closing_spec =
     (λ c κs. search rules)
     returns
     (λ c. (node c.before).there)
-    (λ c κs. c.before.before.before.before.before.before.before.requires.1.0)
+    (λ c κs. c.requires.1.0)
     (λ c. (node c.before.before.before).there)
     (λ c κs. search rules)
-    (λ c κs. c.before.before.before.before.before.before.before.before.before.before.requires.1.1)
+    (λ c κs. c.requires.1.1)
     (λ c. let h = node c.before.before.before.before.before in omega (arith, h.there))
     (λ c κs. search rules)
     returns_2

@@ -11,8 +11,8 @@ unfolding index_fault
 index_fault_spec =
     tie.close
     (tie.spec
-    (λ c. simp (le-leb _ _ c.if1.true))
+    (λ c. simp (le-leb _ _ c.if-claim-k.true))
     (λ c. search rules)
-    (λ c. omega (arith, (c.shared_slice_known.given c.before.before.args.k).fits))
-    (λ c. simp (lt-leb _ _ c.before.before.if1.false, lt-ltb _ _ c.if2.true))
-    (λ c. simp (lt-leb _ _ c.before.before.if1.false, le-ltb _ _ c.if2.false)))
+    (λ c. omega (arith, (c.shared_slice_known-1.given c.args.k).fits))
+    (λ c. simp (lt-leb _ _ c.if-claim-k.false, lt-ltb _ _ c.if-claim-k-2.true))
+    (λ c. simp (lt-leb _ _ c.if-claim-k.false, le-ltb _ _ c.if-claim-k-2.false)))

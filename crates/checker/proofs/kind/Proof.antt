@@ -6,4 +6,4 @@ use Rattle.checker.proofs.kind.Tie as tie
 
 pub kind_spec : {M : Type 1} → statement M
 unfolding kind_of
-kind_spec = tie.close (tie.spec (λ c. simp (eq-eqb _ _ c.if1.true)) (λ c. simp (ne_eqb _ _ c.if1.false)))
+kind_spec = tie.close (tie.spec (λ c. simp (eq-eqb _ _ c.if-mark-eq77.true)) (λ c. simp (ne_eqb _ _ c.if-mark-eq77.false)))

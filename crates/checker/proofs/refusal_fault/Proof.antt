@@ -17,59 +17,56 @@ use Rattle.checker.specs.Checking.{tree_fault, refusal_fault}
 use Rattle.checker.proofs.refusal_fault.Statement.{statement}
 use Rattle.checker.proofs.refusal_fault.Tie as tie
 
-first : (c : tie.After-tree) → let a = c.before.before.before.before.before.before.before.before.before.args in
-    c.tree.result ≡ tree_fault (inputs a.g.now) 0 a.f.now a.g.now a.claim.now [] 3
+first : (c : tie.After-tree-first) → let a = c.args in
+    c.tree-first.result ≡ tree_fault (inputs a.g.now) 0 a.f.now a.g.now a.claim.now [] 3
 first c =
-    let a = c.before.before.before.before.before.before.before.before.before.args in
-    c.tree.ensures ∙ stands_as _ _ _ c.before.start.ensures.0 (λ n w. tree_fault n 0 a.f.now a.g.now a.claim.now w 3)
+    let a = c.args in
+    c.tree-first.ensures ∙ stands_as _ _ _ c.start.ensures.0 (λ n w. tree_fault n 0 a.f.now a.g.now a.claim.now w 3)
 
-second : (c : tie.After-tree2) → let a = c.before.before.before.before.before.before.before.before.before.before.before.before.before.args in
-    c.tree2.result ≡ tree_fault (inputs a.g.now) 1 a.f.now a.g.now a.claim.now [] c.before.before.before.before.tree.result.place
+second : (c : tie.After-tree-second) → let a = c.args in
+    c.tree-second.result ≡ tree_fault (inputs a.g.now) 1 a.f.now a.g.now a.claim.now [] c.tree-first.result.place
 second c =
-    let a = c.before.before.before.before.before.before.before.before.before.before.before.before.before.args in
-    c.tree2.ensures ∙ stands_as _ _ _ c.before.start2.ensures.0 (λ n w. tree_fault n 1 a.f.now a.g.now a.claim.now w c.before.before.before.before.tree.result.place)
+    let a = c.args in
+    c.tree-second.ensures ∙ stands_as _ _ _ c.start-2.ensures.0 (λ n w. tree_fault n 1 a.f.now a.g.now a.claim.now w c.tree-first.result.place)
 
-returns : tie.Need-returns
+returns : tie.Need-returns-then-header-ne0
 unfolding refusal_fault
-returns c = then_ends _ _ _ c.before.before.header_fault.ensures c.if1.true
+returns c = then_ends _ _ _ c.header_fault-header.ensures c.if-header-ne0.true
 
 -- after the header, the two trees and the length decide
-after_header : (c : tie.Else1) (r : Fault) → let a = c.before.before.before.before.before.before.before.args in
+after_header : (c : tie.Else-header-ne0) (r : Fault) → let a = c.args in
     let tree : ℕ → ℕ → Fault = λ q. tree_fault (inputs a.g.now) q a.f.now a.g.now a.claim.now [] in
     r ≡ tree 0 3 onward tree 1 onward length_fault (length a.claim.now) → r ≡ refusal_fault a.f.now a.g.now a.claim.now
 unfolding refusal_fault ◌onward◌
-after_header c r e = then_met _ _ _ r c.before.before.header_fault.ensures c.if1.false e
+after_header c r e = then_met _ _ _ r c.header_fault-header.ensures c.if-header-ne0.false e
 
-returns_2 : tie.Need-returns-2
+returns_2 : tie.Need-returns-then-first-ne0
 returns_2 c =
-    let bad = c.if2.true in
+    let bad = c.if-first-ne0.true in
     after_header c.before.before.before.before _ (onward_ends _ _ _ (onward_ends _ _ _ (first c.before.before) bad) bad)
 
-returns_3 : tie.Need-returns-3
+returns_3 : tie.Need-returns-then-second-ne0
 returns_3 c =
-    let one = c.before.before.before.before in
-    after_header one.before.before.before.before _
-    (onward_ends _ _ _ (onward_met _ _ _ _ (first one.before.before) one.if2.false (second c.before.before)) c.if3.true)
+    after_header c.before.before.before.before.before.before.before.before _
+    (onward_ends _ _ _ (onward_met _ _ _ _ (first c.before.before.before.before.before.before) c.if-first-ne0.false (second c.before.before)) c.if-second-ne0.true)
 
-returns_4 : tie.Need-returns-4
+returns_4 : tie.Need-returns
 returns_4 c =
-    let two = c.before in
-    let one = two.before.before.before.before in
-    after_header one.before.before.before.before _
-    (onward_met _ _ _ _ (onward_met _ _ _ _ (first one.before.before) one.if2.false (second two.before.before)) two.if3.false c.length_fault.ensures)
+    after_header c.before.before.before.before.before.before.before.before.before _
+    (onward_met _ _ _ _ (onward_met _ _ _ _ (first c.before.before.before.before.before.before.before) c.if-first-ne0.false (second c.before.before.before)) c.if-second-ne0.false c.length_fault.ensures)
 
 pub refusal_fault_spec : {M : Type 1} → statement M
 refusal_fault_spec =
     tie.close
     (tie.spec
-    (λ c. let h = framed_both _ _ c.before.before.before.before.requires in omega (arith, h.1.header.n_byte.there))
+    (λ c. let h = framed_both _ _ c.requires in omega (arith, h.1.header.n_byte.there))
     (λ c κs. search rules)
     returns
-    (λ c κs. few_inputs _ _ c.before.before.before.before.before.before.before.requires)
-    (λ c κs. let h = framed_both _ _ c.before.before.before.before.before.before.before.before.requires in (c.start.ensures.1, (h.0.long, h.1.long)))
+    (λ c κs. few_inputs _ _ c.requires)
+    (λ c κs. let h = framed_both _ _ c.requires in (c.start.ensures.1, (h.0.long, h.1.long)))
     returns_2
-    (λ c κs. few_inputs _ _ c.before.before.before.before.before.before.before.before.before.before.before.requires)
-    (λ c κs. let h = framed_both _ _ c.before.before.before.before.before.before.before.before.before.before.before.before.requires in (c.start2.ensures.1, (h.0.long, h.1.long)))
+    (λ c κs. few_inputs _ _ c.requires)
+    (λ c κs. let h = framed_both _ _ c.requires in (c.start-2.ensures.1, (h.0.long, h.1.long)))
     returns_3
     (λ c κs. search rules)
     returns_4)

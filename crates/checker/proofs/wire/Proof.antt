@@ -8,27 +8,24 @@ use Rattle.checker.proofs.Making.{Making, making_starts, making_stops, may_go_on
 use Rattle.checker.proofs.wire.Statement.{statement}
 use Rattle.checker.proofs.wire.Tie as tie
 
-abbrev invariant_loop : tie.invariant_loop
+abbrev invariant_loop : tie.invariant-loop-at
 invariant_loop n bytes from wiring₀ at₀ wiring at = Making n bytes from at wiring
 
-abbrev decreases_loop : tie.decreases_loop
+abbrev decreases_loop : tie.decreases-loop-at
 decreases_loop n bytes from wiring₀ at₀ wiring at = length bytes - at
 
-returns : tie.Need-returns invariant_loop decreases_loop
+returns : tie.Need-returns-then-code-ne0 invariant_loop decreases_loop
 returns c =
-    let test = c.before.before.before in
-    making_stops _ _ _ _ _ test.before.loop.invariant test.loop-test.true _ c.before.choice_code.ensures c.if1.true
+    making_stops _ _ _ _ _ c.loop-at.invariant c.loop-at-test.true _ c.choice_code-code.ensures c.if-code-ne0.true
 
-place_requires : tie.Need-place-requires invariant_loop decreases_loop
+place_requires : tie.Need-place-wiring-requires invariant_loop decreases_loop
 place_requires c κs =
-    let test = c.before.before.before in
-    let inv = test.before.loop.invariant in
-    (stands_formed _ _ _ inv.stands, may_go_on _ _ _ _ _ inv test.loop-test.true _ c.before.choice_code.ensures c.if1.false)
+    let inv = c.loop-at.invariant in
+    (stands_formed _ _ _ inv.stands, may_go_on _ _ _ _ _ inv c.loop-at-test.true _ c.choice_code-code.ensures c.if-code-ne0.false)
 
-loop_again : tie.Need-loop-preserved invariant_loop decreases_loop
+loop_again : tie.Need-loop-at-preserved invariant_loop decreases_loop
 loop_again c =
-    let test = c.before.before.before.before in
-    making_goes _ _ _ _ _ test.before.loop.invariant test.loop-test.true _ c.before.before.choice_code.ensures c.before.if1.false _ c.place.ensures.0
+    making_goes _ _ _ _ _ c.loop-at.invariant c.loop-at-test.true _ c.choice_code-code.ensures c.if-code-ne0.false _ c.place-wiring.ensures.0
 
 pub wire_spec : {M : Type 1} → statement M
 wire_spec =
@@ -37,12 +34,12 @@ wire_spec =
     invariant_loop
     decreases_loop
     (λ c κs. search rules)
-    (λ c. making_starts _ _ _ _ c.start.ensures.0)
+    (λ c. making_starts _ _ _ _ c.start-wiring.ensures.0)
     (λ c. omega arith)
-    (λ c κs. stands_formed _ _ _ c.before.before.loop.invariant.stands)
+    (λ c κs. stands_formed _ _ _ c.loop-at.invariant.stands)
     returns
     place_requires
     (λ c. omega arith)
     (λ c. omega arith)
     loop_again
-    (λ c. all_made _ _ _ _ _ c.before.loop.invariant c.loop-test.false))
+    (λ c. all_made _ _ _ _ _ c.loop-at.invariant c.loop-at-test.false))

@@ -9,22 +9,21 @@ use Rattle.disagree.proofs.Lists.{lesser_stays}
 use Rattle.disagree.proofs.lesser_with.Statement.{statement}
 use Rattle.disagree.proofs.lesser_with.Tie as tie
 
-returns : tie.Need-returns
+returns : tie.Need-returns-then-x-pos
 unfolding pattern_of
 returns c =
-    let start = c.before.before.before.before.before in
-    let a = start.args in
-    lesser_stays a.pos a.neg _ a.cubes.now start.ranges.pos.fits c.if1.true
-    ∙ sym (ap (λ (s : Shared). lesser (pattern_of s) (least_with 8 a.pos a.neg a.cubes.now)) c.before.before.least.given.1)
+    let a = c.args in
+    lesser_stays a.pos a.neg _ a.cubes.now c.ranges.pos.fits c.if-x-pos.true
+    ∙ sym (ap (λ (s : Shared). lesser (pattern_of s) (least_with 8 a.pos a.neg a.cubes.now)) c.in-At.is)
 
-returns_2 : tie.Need-returns-2
+returns_2 : tie.Need-returns-in-Nowhere
 unfolding pattern_of lesser
 returns_2 c =
-    let a = c.before.before.before.before.args in
-    c.least_with.ensures ∙ sym (ap (λ (s : Shared). lesser (pattern_of s) (least_with 8 a.pos a.neg a.cubes.now)) c.before.enum_told.given.1)
+    let a = c.args in
+    c.least_with.ensures ∙ sym (ap (λ (s : Shared). lesser (pattern_of s) (least_with 8 a.pos a.neg a.cubes.now)) c.in-Nowhere.is)
 
-returns_3 : tie.Need-returns-3
-returns_3 c = c.lesser.ensures ∙ ap₂ lesser (ap pattern_of (sym c.before.before.before.before.least.given.1)) c.before.least_with2.ensures
+returns_3 : tie.Need-returns-else-x-pos
+returns_3 c = c.lesser.ensures ∙ ap₂ lesser (ap pattern_of (sym c.in-At.is)) c.least_with-in-At.ensures
 
 pub lesser_with_spec : {M : Type 1} → statement M
 lesser_with_spec =

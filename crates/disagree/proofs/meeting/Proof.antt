@@ -13,20 +13,18 @@ use Rattle.disagree.proofs.Lists.{MeetingWalk, meeting_starts, meeting_goes, mee
 use Rattle.disagree.proofs.meeting.Statement.{statement}
 use Rattle.disagree.proofs.meeting.Tie as tie
 
-abbrev invariant_loop : tie.invariant_loop
+abbrev invariant_loop : tie.invariant-loop-at
 invariant_loop w ours theirs least₀ at₀ least at = MeetingWalk (prefix w) ours theirs least₀ least at
 
-abbrev decreases_loop : tie.decreases_loop
+abbrev decreases_loop : tie.decreases-loop-at
 decreases_loop w ours theirs least₀ at₀ least at = length ours - at
 
-loop_again : tie.Need-loop-preserved invariant_loop decreases_loop
+loop_again : tie.Need-loop-at-preserved invariant_loop decreases_loop
 unfolding carried
 loop_again c =
-    let t = c.before.before.before.before in
-    let start = t.before.before.before.before in
-    let theirs = start.args.theirs.now in
-    meeting_goes _ _ _ _ _ _ t.before.loop.invariant t.loop-test.true _
-    (c.lesser_with.ensures ∙ ap (λ (x : Carried). lesser (pattern_of t.before.loop.least) (least_with 8 x.pos x.neg theirs)) c.before.carry.ensures)
+    let theirs = c.args.theirs.now in
+    meeting_goes _ _ _ _ _ _ c.loop-at.invariant c.loop-at-test.true _
+    (c.lesser_with-least.ensures ∙ ap (λ (x : Carried). lesser (pattern_of c.loop-at.least) (least_with 8 x.pos x.neg theirs)) c.carry-one.ensures)
 
 pub meeting_spec : {M : Type 1} → statement M
 meeting_spec =
@@ -44,4 +42,4 @@ meeting_spec =
     (λ c. omega arith)
     (λ c. omega arith)
     loop_again
-    (λ c. meeting_ends _ _ _ _ _ _ c.before.loop.invariant c.loop-test.false))
+    (λ c. meeting_ends _ _ _ _ _ _ c.loop-at.invariant c.loop-at-test.false))

@@ -13,11 +13,11 @@ use Rattle.partial.proofs.led.Tie as tie
 
 returns : tie.Need-returns
 returns c =
-    let a = c.before.before.args in
-    let s = c.before.spread.result in
+    let a = c.args in
+    let s = c.spread.result in
     let kept : (i j : ℕ) → i < 8 → j < 8 → has s (8 * i + j) ≡ has a.inputs i = λ i j h l.
     let byte : (8 * i + j) / 8 ≡ i = omega arith in
-    ap (λ (m : ℕ). has m (8 * i + j)) c.before.spread.ensures ∙ mask_has 64 (λ k. has a.inputs (k / 8)) (8 * i + j) (omega arith) ∙ ap (has a.inputs) byte in
+    ap (λ (m : ℕ). has m (8 * i + j)) c.spread.ensures ∙ mask_has 64 (λ k. has a.inputs (k / 8)) (8 * i + j) (omega arith) ∙ ap (has a.inputs) byte in
     c.folded.ensures
     ∙ mask_same 8 _ _ (λ j l. any_same _ _ 8 (λ i h. has_and a.bits s (8 * i + j) ∙ ap (λ (t : Bool). has a.bits (8 * i + j) && t) (kept i j h l)))
 

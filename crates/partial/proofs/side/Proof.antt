@@ -5,13 +5,13 @@ use Rattle.wirings.specs.Pairs.{side}
 use Rattle.partial.proofs.side.Statement.{statement}
 use Rattle.partial.proofs.side.Tie as tie
 
-returns : tie.Need-returns
+returns : tie.Need-returns-then-s-eq0
 unfolding side
-returns c = simp (eq-eqb c.before.before.before.args.s 0 c.before.if1.true) c.on_list.ensures
+returns c = simp (eq-eqb c.args.s 0 c.if-s-eq0.true) c.on_list.ensures
 
-returns_2 : tie.Need-returns-2
+returns_2 : tie.Need-returns
 unfolding side
-returns_2 c = simp (ne_eqb c.before.before.before.args.s 0 c.before.if1.false) c.off_list.ensures
+returns_2 c = simp (ne_eqb c.args.s 0 c.if-s-eq0.false) c.off_list.ensures
 
 pub side_spec : {M : Type 1} → statement M
 side_spec = tie.close (tie.spec (λ c κs. search rules) returns (λ c κs. search rules) returns_2)

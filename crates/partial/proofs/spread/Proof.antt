@@ -16,7 +16,7 @@ full j h = every_at (has 255) 8 refl j h
 
 returns : tie.Need-returns
 returns c =
-    let m = c.before.args.inputs in
+    let m = c.args.inputs in
     c.copied.ensures
     ∙ mask_same 64 _ _ (λ k l. ap (λ (t : Bool). has m (k / 8) && t) (full (k % 8) (omega arith)) ∙ and-true (has m (k / 8)))
 

@@ -59,35 +59,29 @@ module _ (f g : List ℕ) (at_f at_g : ℕ × ℕ) where
         (λ h. record { memory = simp (sound_no_cube (record_fault f) z, eq-eqb _ 0 z, h); bytes = simp (sound_no_cube (record_fault f) z, eq-eqb _ 0 z, h) })
 
 -- the part of f, or of g, ends in it
-f_within : (c : tie.Then1) → c.before.before.record_fault.result.place + 2 ≤ length c.before.before.before.before.before.args.f.now
-f_within c = within _ _ _ c.before.before.record_fault.ensures c.before.is_cubes.ensures c.if1.true
+f_within : (c : tie.Then-is_cubes) → c.record_fault-in_f.result.place + 2 ≤ length c.args.f.now
+f_within c = within _ _ _ c.record_fault-in_f.ensures c.is_cubes.ensures c.if-is_cubes.true
 
-g_within : (c : tie.Then3) → c.before.before.record_fault2.result.place + 2 ≤ length c.before.before.before.before.before.before.before.before.before.before.args.g.now
-g_within c = within _ _ _ c.before.before.record_fault2.ensures c.before.is_cubes2.ensures c.if3.true
+g_within : (c : tie.Then-is_cubes-2) → c.record_fault-in_g.result.place + 2 ≤ length c.args.g.now
+g_within c = within _ _ _ c.record_fault-in_g.ensures c.is_cubes-2.ensures c.if-is_cubes-2.true
 
-returns : tie.Need-returns
+returns : tie.Need-returns-then-is_cubes
 returns c =
-    let t = c.before in
-    in_f _ _ _ _ _ t.before.before.record_fault.ensures (sym t.before.is_cubes.ensures ∙ t.if1.true)
+    in_f _ _ _ _ _ c.record_fault-in_f.ensures (sym c.is_cubes.ensures ∙ c.if-is_cubes.true)
 
-returns_2 : tie.Need-returns-2
+returns_2 : tie.Need-returns-then-in_f-ne0
 returns_2 c =
-    let t = c.before.before.before in
-    none_in_f _ _ _ _ _ t.before.before.record_fault.ensures (sym t.before.is_cubes.ensures ∙ t.if1.false) c.before.if2.true
+    none_in_f _ _ _ _ _ c.record_fault-in_f.ensures (sym c.is_cubes.ensures ∙ c.if-is_cubes.false) c.if-in_f-ne0.true
 
-returns_3 : tie.Need-returns-3
+returns_3 : tie.Need-returns-then-is_cubes-2
 returns_3 c =
-    let t = c.before in
-    let l = t.before.before.before in
-    in_g _ _ _ _ _ _ l.before.before.before.before.record_fault.ensures t.before.before.record_fault2.ensures l.if2.false
-    (sym t.before.is_cubes2.ensures ∙ t.if3.true)
+    in_g _ _ _ _ _ _ c.record_fault-in_f.ensures c.record_fault-in_g.ensures c.if-in_f-ne0.false
+    (sym c.is_cubes-2.ensures ∙ c.if-is_cubes-2.true)
 
-returns_4 : tie.Need-returns-4
+returns_4 : tie.Need-returns
 returns_4 c =
-    let t = c.before in
-    let l = t.before.before.before in
-    none_in_g _ _ _ _ _ _ l.before.before.before.before.record_fault.ensures t.before.before.record_fault2.ensures l.if2.false
-    (sym t.before.is_cubes2.ensures ∙ t.if3.false)
+    none_in_g _ _ _ _ _ _ c.record_fault-in_f.ensures c.record_fault-in_g.ensures c.if-in_f-ne0.false
+    (sym c.is_cubes-2.ensures ∙ c.if-is_cubes-2.false)
 
 pub at_fault_spec : {M : Type 1} → statement M
 at_fault_spec =

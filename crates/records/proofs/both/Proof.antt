@@ -14,45 +14,41 @@ use Rattle.records.proofs.both.Statement.{statement}
 use Rattle.records.proofs.both.Tie as tie
 
 -- after each test the record is sound
-sound_f : (c : tie.Else1) → (record_fault c.before.before.before.before.before.args.f.now).code ≡ 0
-sound_f c = sound_as c.before.before.record_fault.ensures c.if1.false
+sound_f : (c : tie.Else-in_f-ne0) → (record_fault c.args.f.now).code ≡ 0
+sound_f c = sound_as c.record_fault-in_f.ensures c.if-in_f-ne0.false
 
-sound_g : (c : tie.Else2) → (record_fault c.before.before.before.before.before.before.before.before.args.g.now).code ≡ 0
-sound_g c = sound_as c.before.before.record_fault2.ensures c.if2.false
+sound_g : (c : tie.Else-in_g-ne0) → (record_fault c.args.g.now).code ≡ 0
+sound_g c = sound_as c.record_fault-in_g.ensures c.if-in_g-ne0.false
 
 -- and then their n decides
-by_inputs : (c : tie.Else2) (r : Answer)
-    → let a = c.before.before.before.before.before.before.before.before.args in
+by_inputs : (c : tie.Else-in_g-ne0) (r : Answer)
+    → let a = c.args in
     r ≡ cond (eqb (inputs a.f.now) (inputs a.g.now)) fine (refused 9 2 2) → r ≡ both_read a.f.now a.g.now
 unfolding both_read
 by_inputs c r e =
-    let e₁ = c.before.before.before in
-    by_next 1 _ _ _ _ e₁.before.before.record_fault.ensures e₁.if1.false
-    (by_next 2 _ _ _ _ c.before.before.record_fault2.ensures c.if2.false e)
+    by_next 1 _ _ _ _ c.record_fault-in_f.ensures c.if-in_f-ne0.false
+    (by_next 2 _ _ _ _ c.record_fault-in_g.ensures c.if-in_g-ne0.false e)
 
-returns : tie.Need-returns
+returns : tie.Need-returns-then-in_f-ne0
 unfolding both_read
 returns c =
-    let t = c.before in
-    by_stop 1 _ _ _ _ t.before.before.record_fault.ensures t.if1.true c.refused_by.ensures
+    by_stop 1 _ _ _ _ c.record_fault-in_f.ensures c.if-in_f-ne0.true c.refused_by.ensures
 
-returns_2 : tie.Need-returns-2
+returns_2 : tie.Need-returns-then-in_g-ne0
 unfolding both_read
 returns_2 c =
-    let t = c.before in
-    let e₁ = t.before.before.before in
-    by_next 1 _ _ _ _ e₁.before.before.record_fault.ensures e₁.if1.false
-    (by_stop 2 _ _ _ _ t.before.before.record_fault2.ensures t.if2.true c.refused_by2.ensures)
+    by_next 1 _ _ _ _ c.record_fault-in_f.ensures c.if-in_f-ne0.false
+    (by_stop 2 _ _ _ _ c.record_fault-in_g.ensures c.if-in_g-ne0.true c.refused_by-then-in_g-ne0.ensures)
 
-returns_3 : tie.Need-returns-3
+returns_3 : tie.Need-returns-then-f-g
 returns_3 c =
     by_inputs c.before.before.before.before _
-    (c.refused.ensures ∙ ap (λ (t : Bool). cond t fine (refused 9 2 2)) (sym (ne_eqb _ _ c.before.if3.true)))
+    (c.refused.ensures ∙ ap (λ (t : Bool). cond t fine (refused 9 2 2)) (sym (ne_eqb _ _ c.if-f-g.true)))
 
-returns_4 : tie.Need-returns-4
+returns_4 : tie.Need-returns
 returns_4 c =
     by_inputs c.before.before.before.before _
-    (c.accepted.ensures ∙ ap (λ (t : Bool). cond t fine (refused 9 2 2)) (sym (eq-eqb _ _ c.before.if3.false)))
+    (c.accepted.ensures ∙ ap (λ (t : Bool). cond t fine (refused 9 2 2)) (sym (eq-eqb _ _ c.if-f-g.false)))
 
 pub both_spec : {M : Type 1} → statement M
 both_spec =

@@ -12,25 +12,23 @@ use Rattle.records.proofs.Cubes.{clash_at, clash_nowhere}
 use Rattle.records.proofs.clash_fault.Statement.{statement}
 use Rattle.records.proofs.clash_fault.Tie as tie
 
-abbrev invariant_loop : tie.invariant_loop
+abbrev invariant_loop : tie.invariant-loop-at
 invariant_loop on from off at₀ at = Search (clash_code 8 off) (clash_pattern 8 off) on from at
 
-abbrev decreases_loop : tie.decreases_loop
+abbrev decreases_loop : tie.decreases-loop-at
 decreases_loop on from off at₀ at = length on - at
 
-returns : tie.Need-returns invariant_loop decreases_loop
+returns : tie.Need-returns-in-At invariant_loop decreases_loop
 returns c =
-    let t = c.before.before.before.before.before.before in
-    let w = t.before.loop in
-    let seven = clash_at _ _ _ _ _ c.before.before.before.least_with.ensures _ c.before.pattern.given.1 in
+    let w = c.loop-at in
+    let seven = clash_at _ _ _ _ _ c.least_with.ensures _ c.in-At.is in
     sym
-    (search_found _ _ _ _ _ w.invariant t.loop-test.true (λ z. eqb-false 7 0 refl (sym seven.0 ∙ z))
+    (search_found _ _ _ _ _ w.invariant c.loop-at-test.true (λ z. eqb-false 7 0 refl (sym seven.0 ∙ z))
     ∙ ap₂ (λ code pattern. fault_at code w.at pattern) seven.0 seven.1)
 
-loop_again : tie.Need-loop-preserved invariant_loop decreases_loop
+loop_again : tie.Need-loop-at-preserved invariant_loop decreases_loop
 loop_again c =
-    let t = c.before.before.before.before.before in
-    search_goes _ _ _ _ _ t.before.loop.invariant t.loop-test.true (clash_nowhere _ _ _ _ _ c.before.before.least_with.ensures c.enum_told.given.1)
+    search_goes _ _ _ _ _ c.loop-at.invariant c.loop-at-test.true (clash_nowhere _ _ _ _ _ c.least_with.ensures c.in-Nowhere.is)
 
 pub clash_fault_spec : {M : Type 1} → statement M
 clash_fault_spec =
@@ -38,7 +36,7 @@ clash_fault_spec =
     (tie.spec
     invariant_loop
     decreases_loop
-    (λ c. search_starts _ _ _ _ c.before.before.requires)
+    (λ c. search_starts _ _ _ _ c.requires)
     (λ c. omega arith)
     (λ c. omega arith)
     (λ c. omega arith)
@@ -50,4 +48,4 @@ clash_fault_spec =
     (λ c. omega arith)
     (λ c. omega arith)
     loop_again
-    (λ c. sym (search_ends _ _ _ _ _ c.before.loop.invariant c.loop-test.false)))
+    (λ c. sym (search_ends _ _ _ _ _ c.loop-at.invariant c.loop-at-test.false)))

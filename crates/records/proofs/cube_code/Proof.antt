@@ -6,14 +6,14 @@ use Rattle.records.proofs.Codes.{code_five, code_six, code_none}
 use Rattle.records.proofs.cube_code.Statement.{statement}
 use Rattle.records.proofs.cube_code.Tie as tie
 
-returns : tie.Need-returns
-returns c = let f = c.before.ranges in sym (code_five _ _ _ f.pos.fits f.neg.fits c.if1.true)
+returns : tie.Need-returns-then-beyond-ne0
+returns c = let f = c.ranges in sym (code_five _ _ _ f.pos.fits f.neg.fits c.if-beyond-ne0.true)
 
-returns_2 : tie.Need-returns-2
-returns_2 c = let f = c.before.before.ranges in sym (code_six _ _ _ f.pos.fits f.neg.fits c.before.if1.false c.if2.true)
+returns_2 : tie.Need-returns-then-both-ne0
+returns_2 c = let f = c.ranges in sym (code_six _ _ _ f.pos.fits f.neg.fits c.if-beyond-ne0.false c.if-both-ne0.true)
 
-returns_3 : tie.Need-returns-3
-returns_3 c = let f = c.before.before.ranges in sym (code_none _ _ _ f.pos.fits f.neg.fits c.before.if1.false c.if2.false)
+returns_3 : tie.Need-returns
+returns_3 c = let f = c.ranges in sym (code_none _ _ _ f.pos.fits f.neg.fits c.if-beyond-ne0.false c.if-both-ne0.false)
 
 pub cube_code_spec : {M : Type 1} → statement M
 cube_code_spec =

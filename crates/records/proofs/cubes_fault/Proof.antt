@@ -10,24 +10,24 @@ use Rattle.records.proofs.Walks.{Search, search_starts, search_found, search_goe
 use Rattle.records.proofs.cubes_fault.Statement.{statement}
 use Rattle.records.proofs.cubes_fault.Tie as tie
 
-abbrev invariant_loop : tie.invariant_loop
+abbrev invariant_loop : tie.invariant-loop-at
 invariant_loop list from n at₀ at = Search (cube_code n) no_pattern list from at
 
-abbrev decreases_loop : tie.decreases_loop
+abbrev decreases_loop : tie.decreases-loop-at
 decreases_loop list from n at₀ at = length list - at
 
-returns : tie.Need-returns invariant_loop decreases_loop
+returns : tie.Need-returns-then-code-ne0 invariant_loop decreases_loop
 returns c =
-    let w = c.before.before.before.before.before.loop in
-    let e = c.before.cube_code.ensures in
+    let w = c.loop-at in
+    let e = c.cube_code-code.ensures in
     sym
-    (search_found _ _ _ _ _ w.invariant c.before.before.before.before.loop-test.true (λ z. c.if1.true (e ∙ z))
+    (search_found _ _ _ _ _ w.invariant c.loop-at-test.true (λ z. c.if-code-ne0.true (e ∙ z))
     ∙ ap (λ (code : ℕ). fault code w.at) (sym e))
 
-loop_again : tie.Need-loop-preserved invariant_loop decreases_loop
+loop_again : tie.Need-loop-at-preserved invariant_loop decreases_loop
 loop_again c =
-    search_goes _ _ _ _ _ c.before.before.before.before.before.loop.invariant c.before.before.before.before.loop-test.true
-    (sym c.before.cube_code.ensures ∙ c.if1.false)
+    search_goes _ _ _ _ _ c.loop-at.invariant c.loop-at-test.true
+    (sym c.cube_code-code.ensures ∙ c.if-code-ne0.false)
 
 pub cubes_fault_spec : {M : Type 1} → statement M
 cubes_fault_spec =
@@ -35,7 +35,7 @@ cubes_fault_spec =
     (tie.spec
     invariant_loop
     decreases_loop
-    (λ c. search_starts _ _ _ _ c.before.requires.1)
+    (λ c. search_starts _ _ _ _ c.requires.1)
     (λ c. omega arith)
     (λ c. omega arith)
     (λ c. omega arith)
@@ -45,4 +45,4 @@ cubes_fault_spec =
     (λ c. omega arith)
     (λ c. omega arith)
     loop_again
-    (λ c. sym (search_ends _ _ _ _ _ c.before.loop.invariant c.loop-test.false)))
+    (λ c. sym (search_ends _ _ _ _ _ c.loop-at.invariant c.loop-at-test.false)))

@@ -10,27 +10,26 @@ use Rattle.records.proofs.header_fault.Statement.{statement}
 use Rattle.records.proofs.header_fault.Tie as tie
 
 -- the bytes have been looked at
-bytes : (c : tie.After-then-byte4) → c.then_byte4.result ≡ header_bytes c.before.before.before.before.before.before.args.s.now
+bytes : (c : tie.After-then_byte-counts) → c.then_byte-counts.result ≡ header_bytes c.args.s.now
 unfolding header_bytes
 bytes c = cc
 
 -- and were sound
-header : (c : tie.Else1) → Header c.before.before.before.before.before.before.before.before.args.s.now
-header c = bytes_sound _ (sound_as (bytes c.before.before) c.if1.false)
+header : (c : tie.Else-counts-ne0) → Header c.args.s.now
+header c = bytes_sound _ (sound_as (bytes c.before.before) c.if-counts-ne0.false)
 
-returns : tie.Need-returns
+returns : tie.Need-returns-then-counts-ne0
 unfolding header_fault
 returns c =
     let e = bytes c.before.before in
-    e ∙ sym (then_stop _ _ (bad_as e c.if1.true))
+    e ∙ sym (then_stop _ _ (bad_as e c.if-counts-ne0.true))
 
-returns_2 : tie.Need-returns-2
+returns_2 : tie.Need-returns
 unfolding header_fault
 returns_2 c =
-    let tested = c.before.before in
     c.length_fault.ensures
-    ∙ ap (length_fault _) c.before.record_end.ensures
-    ∙ sym (then_next _ _ (sound_as (bytes tested.before.before) tested.if1.false))
+    ∙ ap (length_fault _) c.record_end.ensures
+    ∙ sym (then_next _ _ (sound_as (bytes c.before.before.before.before) c.if-counts-ne0.false))
 
 pub header_fault_spec : {M : Type 1} → statement M
 header_fault_spec =

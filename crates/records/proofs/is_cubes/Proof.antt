@@ -5,4 +5,4 @@ use Rattle.records.proofs.is_cubes.Tie as tie
 
 pub is_cubes_spec : {M : Type 1} → statement M
 is_cubes_spec =
-    tie.close (tie.spec (λ c. simp (lt-leb _ _ c.if1.true)) (λ c. simp (le-leb _ _ c.before.if1.false)))
+    tie.close (tie.spec (λ c. simp (lt-leb _ _ c.if-fault-lt5.true)) (λ c. simp (le-leb _ _ c.if-fault-lt5.false)))

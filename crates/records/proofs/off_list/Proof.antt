@@ -10,7 +10,7 @@ use Rattle.records.proofs.off_list.Tie as tie
 returns : tie.Need-returns
 unfolding off_list
 returns c =
-    let s = c.before.before.args.s.now in
+    let s = c.args.s.now in
     let rest : length s - off_at s ≡ 2 * off_count s = omega arith in
     ap (λ (k : ℕ). take k (drop (off_at s) s)) rest
 

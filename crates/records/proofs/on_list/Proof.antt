@@ -11,7 +11,7 @@ use Rattle.records.proofs.on_list.Tie as tie
 returns : tie.Need-returns
 unfolding on_list
 returns c =
-    let s = c.before.before.args.s.now in
+    let s = c.args.s.now in
     ap (λ (k : ℕ). take k (drop 5 s)) (add-sub_cancel_left 5 (2 * get_or s 3 0))
 
 pub on_list_spec : {M : Type 1} → statement M

@@ -12,21 +12,21 @@ use Rattle.records.proofs.read.Statement.{statement}
 use Rattle.records.proofs.read.Tie as tie
 
 -- after the test the record is sound
-clear : (c : tie.Else1) → (record_fault c.before.before.before.before.args.s.now).code ≡ 0
-clear c = sound_as c.before.before.record_fault.ensures c.if1.false
+clear : (c : tie.Else-fault-ne0) → (record_fault c.args.s.now).code ≡ 0
+clear c = sound_as c.record_fault-fault.ensures c.if-fault-ne0.false
 
-returns : tie.Need-returns
+returns : tie.Need-returns-then-fault-ne0
 unfolding reading
 returns c =
-    let e = c.before.before.before.record_fault.ensures in
-    simp (ne_eqb _ 0 (bad_as e c.before.if1.true)) (ap (λ (a : Answer). with_counts a 0 0 0) (c.refused_by.ensures ∙ ap (refused_by 1) e))
+    let e = c.record_fault-fault.ensures in
+    simp (ne_eqb _ 0 (bad_as e c.if-fault-ne0.true)) (ap (λ (a : Answer). with_counts a 0 0 0) (c.refused_by.ensures ∙ ap (refused_by 1) e))
 
-returns_2 : tie.Need-returns-2
+returns_2 : tie.Need-returns
 unfolding reading
 returns_2 c =
-    let s = c.before.before.before.before.before.before.before.before.args.s.now in
+    let s = c.args.s.now in
     simp (eq-eqb _ 0 (clear c.before.before.before.before))
-    (ap (λ (a : Answer). with_counts a (inputs s) (on_count s) (off_count s)) c.before.before.before.accepted.ensures)
+    (ap (λ (a : Answer). with_counts a (inputs s) (on_count s) (off_count s)) c.accepted.ensures)
 
 pub read_spec : {M : Type 1} → statement M
 read_spec =

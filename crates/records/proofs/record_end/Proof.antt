@@ -9,10 +9,10 @@ record_end_spec =
     tie.close
     (tie.spec
     (λ c. search rules)
-    (λ c. omega (arith, (c.shared_slice_known.given 3).fits))
+    (λ c. omega (arith, (c.shared_slice_known-1.given 3).fits))
     (λ c. search rules)
-    (λ c. omega (arith, (c.before.shared_slice_known.given 4).fits))
-    (λ c. omega (arith, (c.before.shared_slice_known.given 3).fits, (c.before.shared_slice_known.given 4).fits))
-    (λ c. omega (arith, (c.before.shared_slice_known.given 3).fits, (c.before.shared_slice_known.given 4).fits))
-    (λ c. omega (arith, (c.before.shared_slice_known.given 3).fits, (c.before.shared_slice_known.given 4).fits))
+    (λ c. omega (arith, (c.shared_slice_known-1.given 4).fits))
+    (λ c. omega (arith, (c.shared_slice_known-1.given 3).fits, (c.shared_slice_known-1.given 4).fits))
+    (λ c. omega (arith, (c.shared_slice_known-1.given 3).fits, (c.shared_slice_known-1.given 4).fits))
+    (λ c. omega (arith, (c.shared_slice_known-1.given 3).fits, (c.shared_slice_known-1.given 4).fits))
     (λ c. search rules))

@@ -13,36 +13,33 @@ use Rattle.records.proofs.record_fault.Statement.{statement}
 use Rattle.records.proofs.record_fault.Tie as tie
 
 -- after the first test the header is sound
-header : (c : tie.Else1) → (header_fault c.before.before.before.before.args.s.now).code ≡ 0
-header c = sound_as c.before.before.header_fault.ensures c.if1.false
+header : (c : tie.Else-header-ne0) → (header_fault c.args.s.now).code ≡ 0
+header c = sound_as c.header_fault-header.ensures c.if-header-ne0.false
 
-framed : (c : tie.Else1) → Framed c.before.before.before.before.args.s.now
+framed : (c : tie.Else-header-ne0) → Framed c.args.s.now
 framed c = header_sound _ (header c)
 
 -- after the second the cubes are
-cubes : (c : tie.Else2) → (cubes_fault c.before.before.before.before.before.before.before.before.args.s.now).code ≡ 0
-cubes c = sound_as c.before.before.cubes_fault.ensures c.if2.false
+cubes : (c : tie.Else-cubes-ne0) → (cubes_fault c.args.s.now).code ≡ 0
+cubes c = sound_as c.cubes_fault-cubes.ensures c.if-cubes-ne0.false
 
-returns : tie.Need-returns
+returns : tie.Need-returns-then-header-ne0
 returns c =
-    let e = c.before.before.header_fault.ensures in
-    e ∙ sym (ends_at_header _ (bad_as e c.if1.true))
+    let e = c.header_fault-header.ensures in
+    e ∙ sym (ends_at_header _ (bad_as e c.if-header-ne0.true))
 
-returns_2 : tie.Need-returns-2
+returns_2 : tie.Need-returns-then-cubes-ne0
 returns_2 c =
-    let e = c.before.before.cubes_fault.ensures in
-    e ∙ sym (ends_at_cubes _ (header c.before.before.before.before) (bad_as e c.if2.true))
+    let e = c.cubes_fault-cubes.ensures in
+    e ∙ sym (ends_at_cubes _ (header c.before.before.before.before) (bad_as e c.if-cubes-ne0.true))
 
-returns_3 : tie.Need-returns-3
+returns_3 : tie.Need-returns
 returns_3 c =
-    let e₂ = c.before.before.before.before in
-    let e₁ = e₂.before.before.before.before in
-    let start = e₁.before.before.before in
-    let s = start.before.args.s.now in
+    let s = c.args.s.now in
     c.clash_fault.ensures
-    ∙ ap (λ (off : List ℕ). first_fault (clash_code 8 off) (clash_pattern 8 off) (drop 5 (take (off_at s) s)) 5) c.before.off_list.ensures
-    ∙ clash_by_code _ (framed e₁) (λ i. (start.shared_slice_known.given i).fits) (cubes e₂)
-    ∙ sym (ends_at_clash _ (header e₁) (cubes e₂))
+    ∙ ap (λ (off : List ℕ). first_fault (clash_code 8 off) (clash_pattern 8 off) (drop 5 (take (off_at s) s)) 5) c.off_list.ensures
+    ∙ clash_by_code _ (framed c.before.before.before.before.before.before.before) (λ i. (c.shared_slice_known-1.given i).fits) (cubes c.before.before.before)
+    ∙ sym (ends_at_clash _ (header c.before.before.before.before.before.before.before) (cubes c.before.before.before))
 
 pub record_fault_spec : {M : Type 1} → statement M
 record_fault_spec =
@@ -57,7 +54,7 @@ record_fault_spec =
     (λ c. let h = framed c.before.before.before.before.before in omega arith)
     (λ c. let h = framed c.before.before.before.before.before in omega arith)
     (λ c. let h = framed c.before.before.before.before.before in omega arith)
-    (λ c. sym (front_long _ (framed c.before.before.before.before.before.before)))
-    (λ c κs. (framed c.before.before.before.before.before.before).long)
-    (λ c κs. omega (arith, front_long _ (framed c.before.before.before.before.before.before.before)))
+    (λ c. sym (front_long _ (framed c.before.before.before.before.before)))
+    (λ c κs. (framed c.before.before.before.before.before).long)
+    (λ c κs. omega (arith, front_long _ (framed c.before.before.before.before.before.before)))
     returns_3)

@@ -13,30 +13,29 @@ use Rattle.records.proofs.summary.Statement.{statement}
 use Rattle.records.proofs.summary.Tie as tie
 
 -- after the test the record is sound
-clear : (c : tie.Else1) → (record_fault c.before.before.before.before.args.s.now).code ≡ 0
-clear c = sound_as c.before.before.record_fault.ensures c.if1.false
+clear : (c : tie.Else-fault-ne0) → (record_fault c.args.s.now).code ≡ 0
+clear c = sound_as c.record_fault-fault.ensures c.if-fault-ne0.false
 
-checked : (c : tie.Else1) → Sound c.before.before.before.before.args.s.now
+checked : (c : tie.Else-fault-ne0) → Sound c.args.s.now
 checked c = record_sound _ (clear c)
 
-returns : tie.Need-returns
+returns : tie.Need-returns-then-fault-ne0
 unfolding summing
 returns c =
-    let e = c.before.before.before.record_fault.ensures in
-    simp (ne_eqb _ 0 (bad_as e c.before.if1.true)) (ap (λ (a : Answer). with_figures a 0 0 0) (c.refused_by.ensures ∙ ap (refused_by 1) e))
+    let e = c.record_fault-fault.ensures in
+    simp (ne_eqb _ 0 (bad_as e c.if-fault-ne0.true)) (ap (λ (a : Answer). with_figures a 0 0 0) (c.refused_by.ensures ∙ ap (refused_by 1) e))
 
-returns_2 : tie.Need-returns-2
+returns_2 : tie.Need-returns
 unfolding summing
 returns_2 c =
-    let made = c.before.before.before.before.before in
-    let off = made.before.off_list.ensures in
-    let on = made.before.before.on_list.ensures in
-    let n = inputs made.before.before.before.before.before.before.before.args.s.now in
-    simp (eq-eqb _ 0 (clear made.before.before.before))
+    let off = c.off_list-off.ensures in
+    let on = c.on_list-on.ensures in
+    let n = inputs c.args.s.now in
+    simp (eq-eqb _ 0 (clear c.before.before.before.before.before.before.before.before))
     (λ i. record {
-      answer = made.accepted.ensures i;
-      on = (c.before.before.before.patterns.ensures ∙ ap (patterns_held n) on) i;
-      off = (c.before.patterns2.ensures ∙ ap (patterns_held n) off) i;
+      answer = c.accepted.ensures i;
+      on = (c.patterns.ensures ∙ ap (patterns_held n) on) i;
+      off = (c.patterns-2.ensures ∙ ap (patterns_held n) off) i;
       used = (c.used.ensures ∙ ap₂ inputs_used on off) i;
     })
 

@@ -5,8 +5,8 @@ use Rattle.partial.proofs.Carried.clears.Tie as tie
 
 returns : tie.Need-returns
 returns c =
-    let a = c.before.before.before.args in
-    let f = c.before.before.before.ranges in
+    let a = c.args in
+    let f = c.ranges in
     clears_masks a.self a.pos a.neg f.pos.fits f.neg.fits
 
 pub clears_spec : {M : Type 1} → statement M

@@ -5,8 +5,8 @@ use Rattle.partial.proofs.Carried.opposes.Tie as tie
 
 returns : tie.Need-returns
 returns c =
-    let a = c.before.before.args in
-    let f = c.before.before.ranges in
+    let a = c.args in
+    let f = c.ranges in
     opposes_masks a.self a.pos a.neg f.pos.fits f.neg.fits
 
 pub opposes_spec : {M : Type 1} → statement M

@@ -12,23 +12,22 @@ use Rattle.partial.proofs.Wiring.back.Statement.{statement}
 use Rattle.partial.proofs.Wiring.back.Tie as tie
 
 -- the choices before the last, and what the wiring stands for with the last apart
-abbrev prior : tie.After-last → List ℕ
-prior c = let start = c.before.before in before start.args.self start.requires.0 start.requires.1
+abbrev prior : tie.After-last-choice → List ℕ
+prior c = before c.args.self c.requires.0 c.requires.1
 
-stands : (c : tie.After-last) → let r = c.before.before.args.self in StandsFor r r.n (prior c adding c.last.result)
-stands c = let start = c.before.before in stands_last start.args.self start.requires.0 start.requires.1 c.last.result c.last.ensures
+stands : (c : tie.After-last-choice) → let r = c.args.self in StandsFor r r.n (prior c adding c.last-choice.result)
+stands c = stands_last c.args.self c.requires.0 c.requires.1 c.last-choice.result c.last-choice.ensures
 
 -- both inputs are below 8
-depth_room : (c : tie.After-last) → c.before.before.args.self.depth - 1 < 8
-depth_room c = let start = c.before.before in omega (arith, depth_few start.args.self start.requires.0, start.requires.1)
+depth_room : (c : tie.After-last-choice) → c.args.self.depth - 1 < 8
+depth_room c = omega (arith, depth_few c.args.self c.requires.0, c.requires.1)
 
-place_room : (c : tie.After-last) → bit_and c.last.result 15 < 8
-place_room c = input_room _ _ (prior c) c.last.result (stands c)
+place_room : (c : tie.After-last-choice) → bit_and c.last-choice.result 15 < 8
+place_room c = input_room _ _ (prior c) c.last-choice.result (stands c)
 
 returns : tie.Need-returns
 returns c =
-    let x = c.before.before.before.before.before in
-    let r = taken_back _ _ (prior x) x.last.result (stands x) in
+    let r = taken_back _ _ (prior c.before.before.before.before.before) c.last-choice.result (stands c.before.before.before.before.before) in
     (r, stands_formed _ _ _ r)
 
 pub back_spec : {M : Type 1} → statement M
@@ -44,7 +43,7 @@ back_spec =
     (λ c. omega (arith, depth_room c.before.before.before))
     (λ c. search rules)
     (λ c. omega (arith, depth_room c.before.before.before))
-    (λ c. let x = c.before.before.before.before in choices_hold _ _ (prior x) x.last.result (stands x))
+    (λ c. choices_hold _ _ (prior c.before.before.before.before) c.last-choice.result (stands c.before.before.before.before))
     (λ c. omega (arith, depth_room c.before.before.before.before))
     (λ c. omega (arith, depth_room c.before.before.before.before, place_room c.before.before.before.before))
     (λ c. omega (arith, depth_room c.before.before.before.before, place_room c.before.before.before.before))

@@ -13,8 +13,8 @@ last_spec =
     tie.close
     (tie.spec
     (λ c. search rules)
-    (λ c. omega (arith, depth_few c.before.args.self c.before.requires.0))
+    (λ c. omega (arith, depth_few c.args.self c.requires.0))
     (λ c. search rules)
-    (λ c. omega (arith, depth_few c.before.before.args.self c.before.before.requires.0, c.before.before.requires.1))
-    (λ c. let a = c.before.before.args.self in omega (arith, and_le_r (a.choices / 2 ^ (8 * (a.depth - 1))) 255))
-    (λ c. let start = c.before.before in choice_shifted start.args.self start.requires.0 _ (last_there start.args.self start.requires.0 start.requires.1)))
+    (λ c. omega (arith, depth_few c.args.self c.requires.0, c.requires.1))
+    (λ c. let a = c.args.self in omega (arith, and_le_r (a.choices / 2 ^ (8 * (a.depth - 1))) 255))
+    (λ c. choice_shifted c.args.self c.requires.0 _ (last_there c.args.self c.requires.0 c.requires.1)))

@@ -7,7 +7,7 @@ use Rattle.partial.proofs.Wiring.locate.Statement.{statement}
 use Rattle.partial.proofs.Wiring.locate.Tie as tie
 
 returns : tie.Need-returns
-returns c = located_masks c.before.args.self c.before.args.literal c.before.requires.0 c.before.requires.1
+returns c = located_masks c.args.self c.args.literal c.requires.0 c.requires.1
 
 pub locate_spec : {M : Type 1} → statement M
 locate_spec =
@@ -15,6 +15,6 @@ locate_spec =
     (tie.spec
     (λ c. omega (arith, literal_room c.args.self c.args.literal c.requires.0 c.requires.1))
     (λ c. omega (arith, literal_room c.args.self c.args.literal c.requires.0 c.requires.1))
-    (λ c. omega (arith, literal_room c.before.args.self c.before.args.literal c.before.requires.0 c.before.requires.1))
-    (λ c. let b = c.before.args in omega (arith, and_le_r (b.self.choices / 2 ^ (8 * bit_and b.literal 15)) 255))
+    (λ c. omega (arith, literal_room c.args.self c.args.literal c.requires.0 c.requires.1))
+    (λ c. let b = c.args in omega (arith, and_le_r (b.self.choices / 2 ^ (8 * bit_and b.literal 15)) 255))
     returns)

@@ -14,8 +14,7 @@ room b =
 
 returns : tie.Need-returns
 returns c =
-    let b = c.before.before.before.before.before in
-    let r = placed b.args.self b.args.choice b.requires.0 b.requires.1 in
+    let r = placed c.args.self c.args.choice c.requires.0 c.requires.1 in
     (r, stands_formed _ _ _ r)
 
 pub place_spec : {M : Type 1} → statement M
@@ -29,7 +28,7 @@ place_spec =
     (λ c. omega (arith, room c.before.before.before))
     (λ c. search rules)
     (λ c. omega (arith, room c.before.before.before))
-    (λ c. let b = c.before.before.before.before in omega (arith, choices_fit b.args.self b.args.choice b.requires.0 b.requires.1))
+    (λ c. omega (arith, choices_fit c.args.self c.args.choice c.requires.0 c.requires.1))
     (λ c. omega (arith, room c.before.before.before.before))
     (λ c. omega (arith, room c.before.before.before.before))
     (λ c. omega (arith, room c.before.before.before.before))

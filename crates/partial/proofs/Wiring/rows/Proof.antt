@@ -12,40 +12,35 @@ use Rattle.partial.proofs.Rows.{rows_at, rows_found, rows_goes, rows_ends}
 use Rattle.partial.proofs.Wiring.rows.Statement.{statement}
 use Rattle.partial.proofs.Wiring.rows.Tie as tie
 
-abbrev invariant_loop : tie.invariant_loop
+abbrev invariant_loop : tie.invariant-loop-u
 invariant_loop self list other s end u₀ u = Seek (rows_at self.n (prefix self) list other s) (cubes_in list) u
 
-abbrev decreases_loop : tie.decreases_loop
+abbrev decreases_loop : tie.decreases-loop-u
 decreases_loop self list other s end u₀ u = end - u
 
 -- what the call for cube u gives, by the contract of each part
-here : (c : tie.After-row invariant_loop decreases_loop) → let a = c.before.before.before.before.before.before.before.before.args in
-    c.row.result ≡ found (rows_at a.self.n (prefix a.self) a.list.now a.other.now a.s c.before.before.before.before.before.loop.u)
+here : (c : tie.After-row-pair invariant_loop decreases_loop) → let a = c.args in
+    c.row-pair.result ≡ found (rows_at a.self.n (prefix a.self) a.list.now a.other.now a.s c.loop-u.u)
 here c =
-    let a = c.before.before.before.before.before.before.before.before.args in
-    c.row.ensures ∙ ap (λ (k : Carried). found (row k a.other.now a.s c.before.before.before.before.before.loop.u)) c.before.carry.ensures
+    let a = c.args in
+    c.row-pair.ensures ∙ ap (λ (k : Carried). found (row k a.other.now a.s c.loop-u.u)) c.carry.ensures
 
-returns : tie.Need-returns invariant_loop decreases_loop
+returns : tie.Need-returns-then-pair invariant_loop decreases_loop
 returns c =
-    let test = c.before.before.before.before.before in
-    let start = test.before.before.before.before in
     here c.before
-    ∙ sym (ap found (rows_found start.args.self.n start.requires.few _ start.requires.allowed _ _ _ _ test.before.loop.invariant _ refl test.loop-test.true
-    (sym (ap (λ (p : Found). p.found) (here c.before)) ∙ c.if1.true)))
+    ∙ sym (ap found (rows_found c.args.self.n c.requires.few _ c.requires.allowed _ _ _ _ c.loop-u.invariant _ refl c.loop-u-test.true
+    (sym (ap (λ (p : Found). p.found) (here c.before)) ∙ c.if-pair.true)))
 
-loop_again : tie.Need-loop-preserved invariant_loop decreases_loop
+loop_again : tie.Need-loop-u-preserved invariant_loop decreases_loop
 loop_again c =
-    let test = c.before.before.before.before.before in
-    let start = test.before.before.before.before in
-    let a = start.args in
-    rows_goes a.self.n start.requires.few (prefix a.self) start.requires.allowed a.list.now a.other.now a.s _ test.before.loop.invariant _ refl test.loop-test.true
-    (sym (ap (λ (p : Found). p.found) (here c.before)) ∙ c.if1.false)
+    let a = c.args in
+    rows_goes a.self.n c.requires.few (prefix a.self) c.requires.allowed a.list.now a.other.now a.s _ c.loop-u.invariant _ refl c.loop-u-test.true
+    (sym (ap (λ (p : Found). p.found) (here c.before)) ∙ c.if-pair.false)
 
-returns_2 : tie.Need-returns-2 invariant_loop decreases_loop
+returns_2 : tie.Need-returns invariant_loop decreases_loop
 returns_2 c =
-    let start = c.before.before.before.before.before in
     c.nothing.ensures
-    ∙ sym (ap found (rows_ends start.args.self.n start.requires.few _ start.requires.allowed _ _ _ _ c.before.before.loop.invariant c.before.loop-test.false))
+    ∙ sym (ap found (rows_ends c.args.self.n c.requires.few _ c.requires.allowed _ _ _ _ c.loop-u.invariant c.loop-u-test.false))
 
 pub rows_spec : {M : Type 1} → statement M
 rows_spec =

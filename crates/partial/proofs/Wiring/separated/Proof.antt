@@ -6,9 +6,8 @@ use Rattle.partial.proofs.Wiring.separated.Tie as tie
 
 returns : tie.Need-returns
 returns c =
-    let start = c.before.before.before.before in
-    let a = start.args in
-    matrix_separates a.self start.requires a.pos a.neg a.pos2 a.neg2 _ _ c.before.before.copied.ensures c.before.copied2.ensures
+    let a = c.args in
+    matrix_separates a.self c.requires a.pos a.neg a.pos2 a.neg2 _ _ c.copied.ensures c.copied-2.ensures
 
 pub separated_spec : {M : Type 1} → statement M
 separated_spec = tie.close (tie.spec (λ c κs. search rules) (λ c κs. search rules) returns)
