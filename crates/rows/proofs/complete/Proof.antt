@@ -9,10 +9,10 @@ pub complete_spec : {M : Type 1} → statement M
 complete_spec =
     tie.close
     (tie.spec
-    (λ c. simp (le-ltb 0 c.before.before.args.known.n (omega (arith, c.if1.true))) refl)
+    (λ c. simp (le-ltb 0 c.args.known.n (omega (arith, c.if-known-eq0.true))) refl)
     (λ c.
-    let k = c.before.before.before.before.args.known in
-    simp (lt-ltb 0 k.n (omega (arith, c.before.before.if1.false)), not-true k.one c.if2.true) refl)
+    let k = c.args.known in
+    simp (lt-ltb 0 k.n (omega (arith, c.if-known-eq0.false)), not-true k.one c.if-not-known.true) refl)
     (λ c.
-    let k = c.before.before.before.before.args.known in
-    simp (lt-ltb 0 k.n (omega (arith, c.before.before.if1.false)), not-false k.one c.if2.false) refl))
+    let k = c.args.known in
+    simp (lt-ltb 0 k.n (omega (arith, c.if-known-eq0.false)), not-false k.one c.if-not-known.false) refl))

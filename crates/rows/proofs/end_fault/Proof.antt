@@ -10,15 +10,13 @@ end_fault_spec =
     tie.close
     (tie.spec
     (λ c κs. search rules)
-    (λ c. simp (sym c.before.complete.ensures ∙ not-true _ c.if1.true))
+    (λ c. simp (sym c.complete.ensures ∙ c.if-not-complete.true))
     (λ c.
-    let k = c.before.before.before.before.args.known in
-    simp (sym c.before.before.before.complete.ensures ∙ not-false _ c.before.before.if1.false, not-true k.counted c.if2.true))
+    let k = c.args.known in
+    simp (sym c.complete.ensures ∙ c.if-not-complete.false, not-true k.counted c.if-not-known.true))
     (λ c.
-    let if1 = c.before.before.before.before in
-    let k = if1.before.before.args.known in
-    simp (sym if1.before.complete.ensures ∙ not-false _ if1.if1.false, not-false k.counted c.before.before.if2.false, eq-eqb _ _ c.if3.true))
+    let k = c.args.known in
+    simp (sym c.complete.ensures ∙ c.if-not-complete.false, not-false k.counted c.if-not-known.false, eq-eqb _ _ c.if-known.true))
     (λ c.
-    let if1 = c.before.before.before.before in
-    let k = if1.before.before.args.known in
-    simp (sym if1.before.complete.ensures ∙ not-false _ if1.if1.false, not-false k.counted c.before.before.if2.false, ne_eqb _ _ c.if3.false)))
+    let k = c.args.known in
+    simp (sym c.complete.ensures ∙ c.if-not-complete.false, not-false k.counted c.if-not-known.false, ne_eqb _ _ c.if-known.false)))

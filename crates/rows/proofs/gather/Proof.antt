@@ -13,10 +13,10 @@ use Rattle.rows.proofs.Scanned.{Scanned, scanned_starts, gathered_stopped, scann
 use Rattle.rows.proofs.gather.Statement.{statement}
 use Rattle.rows.proofs.gather.Tie as tie
 
-abbrev invariant_loop : tie.invariant_loop
+abbrev invariant_loop : tie.invariant-loop-at
 invariant_loop text on₀ off₀ known₀ at₀ row₀ on off known at row = Scanned text at row known on off
 
-abbrev decreases_loop : tie.decreases_loop
+abbrev decreases_loop : tie.decreases-loop-at
 decreases_loop text on₀ off₀ known₀ at₀ row₀ on off known at row = length text + 1 - at
 
 -- a slice of bytes is shorter than 2^63
@@ -29,55 +29,48 @@ gather_spec =
     (tie.spec
     invariant_loop
     decreases_loop
-    (λ c. let start = c.before.before.before in scanned_starts _ _ _ start.requires.0 start.requires.1)
+    (λ c. scanned_starts _ _ _ c.requires.0 c.requires.1)
     (λ c κs. search rules)
     (λ c κs. search rules)
     (λ c κs. search rules)
-    (λ c. let l = c.before.before.before.before.before in l.loop.invariant.on_kept.room ∙ sym l.before.before.before.before.requires.0)
-    (λ c. let l = c.before.before.before.before.before in l.loop.invariant.off_kept.room ∙ sym l.before.before.before.before.requires.1)
+    (λ c. c.loop-at.invariant.on_kept.room ∙ sym c.requires.0)
+    (λ c. c.loop-at.invariant.off_kept.room ∙ sym c.requires.1)
     (λ c.
-    let l = c.before.before.before.before.before in
-    let said = c.before.before.before.says in
-    turn_fault _ _ _ _ _ _ l.loop.invariant c.before.before.before.before.loop-test.true (small _ l.before.before.before.before.well_formed.0) _ said.ensures.1.0 said.ensures.1.1 _ (c.before.before.judge.ensures ∙ ap (code_by _) said.ensures.0) c.before.if1.true _ c.stopped.ensures)
+    let said = c.says-said in
+    turn_fault _ _ _ _ _ _ c.loop-at.invariant c.loop-at-test.true (small _ c.well_formed.0) _ said.ensures.1.0 said.ensures.1.1 _ (c.judge-code.ensures ∙ ap (code_by c.loop-at.known) said.ensures.0) c.if-code-ne0.true _ c.stopped.ensures)
     (λ c κs. search rules)
-    (λ c. let l = c.before.before.before.before.before.before in l.loop.invariant.on_kept.room ∙ sym l.before.before.before.before.requires.0)
-    (λ c. let l = c.before.before.before.before.before.before in l.loop.invariant.off_kept.room ∙ sym l.before.before.before.before.requires.1)
+    (λ c. c.loop-at.invariant.on_kept.room ∙ sym c.requires.0)
+    (λ c. c.loop-at.invariant.off_kept.room ∙ sym c.requires.1)
     (λ c.
-    let l = c.before.before.before.before.before.before in
-    let said = c.before.before.before.before.says in
-    turn_end _ _ _ _ _ _ l.loop.invariant c.before.before.before.before.before.loop-test.true (small _ l.before.before.before.before.well_formed.0) _ said.ensures.1.0 said.ensures.1.1 (sym (c.before.before.before.judge.ensures ∙ ap (code_by _) said.ensures.0) ∙ c.before.before.if1.false)
-    (sym (c.before.ends.ensures ∙ ap ends_with said.ensures.0) ∙ c.if2.true) _ refl refl refl refl)
+    let said = c.says-said in
+    turn_end _ _ _ _ _ _ c.loop-at.invariant c.loop-at-test.true (small _ c.well_formed.0) _ said.ensures.1.0 said.ensures.1.1 (sym (c.judge-code.ensures ∙ ap (code_by c.loop-at.known) said.ensures.0) ∙ c.if-code-ne0.false)
+    (sym (c.ends.ensures ∙ ap ends_with said.ensures.0) ∙ c.if-ends.true) _ refl refl refl refl)
     (λ c κs. search rules)
-    (λ c κs. let l = c.before.before.before.before.before.before.before.before in l.loop.invariant.on_kept.room)
-    (λ c κs. let l = c.before.before.before.before.before.before.before.before.before.before.before.before in l.loop.invariant.off_kept.room)
+    (λ c κs. c.loop-at.invariant.on_kept.room)
+    (λ c κs. c.loop-at.invariant.off_kept.room)
     (λ c κs.
-    let l = c.before.before.before.before.before.before.before.before.before.before.before.before.before.before.before in
-    let w = l.loop.invariant in
-    let below : length l.before.before.before.before.args.text.now < 2 ^ 63 = small _ l.before.before.before.before.well_formed.0 in
-    let h = c.before.before.before.before.before.before.before.before.before.before.before.before.before.before.loop-test.true in (
+    let w = c.loop-at.invariant in
+    let below : length c.args.text.now < 2 ^ 63 = small _ c.well_formed.0 in
+    let h = c.loop-at-test.true in (
       omega (arith, w.knows.counts.terms_are, terms_most w.said, w.fewer, h, below),
       (omega (arith, w.knows.counts.on_are, cubes_most on_char w.said, w.fewer, h, below), omega (arith, w.knows.counts.off_are, cubes_most off_char w.said, w.fewer, h, below)),
     ))
-    (λ c κs. let said = c.before.before.before.before.before.before.before.before.before.before.before.before.before.before.says in to_within _ _ c.before.before.before.before.before.before.before.before.before.before.before.before.before.before.before.loop-test.true _ _ said.ensures.1.0 said.ensures.1.1 refl)
+    (λ c κs. let said = c.says-said in to_within _ _ c.loop-at-test.true _ _ said.ensures.1.0 said.ensures.1.1 refl)
     (λ c.
-    let l = c.before.before.before.before.before.before.before.before.before.before.before.before.before.before.before.before.before in
-    let said = c.before.before.before.before.before.before.before.before.before.before.before.before.before.before.before.says in
-    omega (arith, small _ l.before.before.before.before.well_formed.0, (last_within _ _ c.before.before.before.before.before.before.before.before.before.before.before.before.before.before.before.before.loop-test.true _ _ said.ensures.1.0 said.ensures.1.1 c.line_end.ensures).1))
+    let said = c.says-said in
+    omega (arith, small _ c.well_formed.0, (last_within _ _ c.loop-at-test.true _ _ said.ensures.1.0 said.ensures.1.1 c.line_end-at.ensures).1))
     (λ c.
-    let l = c.before.before.before.before.before.before.before.before.before.before.before.before.before.before.before.before.before in
-    omega (arith, small _ l.before.before.before.before.well_formed.0, l.loop.invariant.rows, l.loop.invariant.fewer, c.before.before.before.before.before.before.before.before.before.before.before.before.before.before.before.before.loop-test.true))
+    omega (arith, small _ c.well_formed.0, c.loop-at.invariant.rows, c.loop-at.invariant.fewer, c.loop-at-test.true))
     (λ c.
-    let said = c.before.before.before.before.before.before.before.before.before.before.before.before.before.before.before.says in
-    let last = last_within _ _ c.before.before.before.before.before.before.before.before.before.before.before.before.before.before.before.before.loop-test.true _ _ said.ensures.1.0 said.ensures.1.1 c.line_end.ensures in
-    omega (arith, last.0, last.1, c.before.before.before.before.before.before.before.before.before.before.before.before.before.before.before.before.loop-test.true))
+    let said = c.says-said in
+    let last = last_within _ _ c.loop-at-test.true _ _ said.ensures.1.0 said.ensures.1.1 c.line_end-at.ensures in
+    omega (arith, last.0, last.1, c.loop-at-test.true))
     (λ c.
-    let l = c.before.before.before.before.before.before.before.before.before.before.before.before.before.before.before.before.before in
-    let said = c.before.before.before.before.before.before.before.before.before.before.before.before.before.before.before.says in
-    turn_again _ _ _ _ _ _ l.loop.invariant c.before.before.before.before.before.before.before.before.before.before.before.before.before.before.before.before.loop-test.true (small _ l.before.before.before.before.well_formed.0) _ said.ensures.1.0 said.ensures.1.1 (sym (c.before.before.before.before.before.before.before.before.before.before.before.before.before.before.judge.ensures ∙ ap (code_by _) said.ensures.0) ∙ c.before.before.before.before.before.before.before.before.before.before.before.before.before.if1.false)
-    _ said.ensures.0 (sym c.before.before.before.before.before.before.before.before.before.before.before.before.ends.ensures ∙ c.before.before.before.before.before.before.before.before.before.before.before.if2.false) _ c.before.before.before.before.before.before.before.before.before.before.cube.ensures _ _ c.before.before.before.before.before.before.before.before.keep.ensures c.before.before.before.before.keep2.ensures _ c.before.learn.ensures _ c.line_end.ensures)
+    let said = c.says-said in
+    turn_again _ _ _ _ _ _ c.loop-at.invariant c.loop-at-test.true (small _ c.well_formed.0) _ said.ensures.1.0 said.ensures.1.1 (sym (c.judge-code.ensures ∙ ap (code_by c.loop-at.known) said.ensures.0) ∙ c.if-code-ne0.false)
+    _ said.ensures.0 (sym c.ends.ensures ∙ c.if-ends.false) _ c.cube-term.ensures _ _ c.keep.ensures c.keep-in-loop-at.ensures _ c.learn-known.ensures _ c.line_end-at.ensures)
     (λ c κs. search rules)
-    (λ c. let l = c.before.before in l.loop.invariant.on_kept.room ∙ sym l.before.before.before.before.requires.0)
-    (λ c. let l = c.before.before in l.loop.invariant.off_kept.room ∙ sym l.before.before.before.before.requires.1)
+    (λ c. c.loop-at.invariant.on_kept.room ∙ sym c.requires.0)
+    (λ c. c.loop-at.invariant.off_kept.room ∙ sym c.requires.1)
     (λ c.
-    let l = c.before.before in
-    gathered_stopped _ _ _ _ _ _ l.loop.invariant _ (c.stopped2.ensures ∙ sym (scanned_last _ _ _ _ _ _ l.loop.invariant c.before.loop-test.false)) (λ z. eqb-false 21 0 refl (sym (ap (λ (f : Fault). f.code) c.stopped2.ensures) ∙ z))))
+    gathered_stopped _ _ _ _ _ _ c.loop-at.invariant _ (c.stopped-2.ensures ∙ sym (scanned_last _ _ _ _ _ _ c.loop-at.invariant c.loop-at-test.false)) (λ z. eqb-false 21 0 refl (sym (ap (λ (f : Fault). f.code) c.stopped-2.ensures) ∙ z))))

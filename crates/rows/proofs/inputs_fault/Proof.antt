@@ -7,7 +7,7 @@ pub inputs_fault_spec : {M : Type 1} → statement M
 inputs_fault_spec =
     tie.close
     (tie.spec
-    (λ c. simp (lt-ltb _ _ c.if1.true))
-    (λ c. simp (le-ltb _ _ c.before.if1.false, lt-leb _ _ c.if2.true))
-    (λ c. simp (le-ltb _ _ c.before.before.if1.false, le-leb _ _ c.before.if2.false, lt-leb _ _ c.if3.true))
-    (λ c. simp (le-ltb _ _ c.before.before.if1.false, le-leb _ _ c.before.if2.false, le-leb _ _ c.if3.false)))
+    (λ c. simp (lt-ltb _ _ c.if-n-gt0.true))
+    (λ c. simp (le-ltb _ _ c.if-n-gt0.false, lt-leb _ _ c.if-v-lt1.true))
+    (λ c. simp (le-ltb _ _ c.if-n-gt0.false, le-leb _ _ c.if-v-lt1.false, lt-leb _ _ c.if-v-gt8.true))
+    (λ c. simp (le-ltb _ _ c.if-n-gt0.false, le-leb _ _ c.if-v-lt1.false, le-leb _ _ c.if-v-gt8.false)))

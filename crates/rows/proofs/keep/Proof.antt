@@ -13,16 +13,16 @@ pub keep_spec : {M : Type 1} → statement M
 keep_spec =
     tie.close
     (tie.spec
-    (λ c. simp (ne_eqb _ _ c.if1.true))
-    (λ c. simp (eq-eqb _ _ c.before.if1.false, le-ltb _ _ c.if2.true))
+    (λ c. simp (ne_eqb _ _ c.if-cube-c.true))
+    (λ c. simp (eq-eqb _ _ c.if-cube-c.false, le-ltb _ _ c.if-count-ge64.true))
     (λ c. search rules)
     (λ c. search rules)
     (λ c. search rules)
     (λ c.
-    let a = c.before.before.before.args in
-    omega (arith, c.if2.false, c.before.before.before.requires, length-set a.list.now (2 * a.count) a.cube.pos))
+    let a = c.args in
+    omega (arith, c.if-count-ge64.false, c.requires, length-set a.list.now (2 * a.count) a.cube.pos))
     (λ c. search rules)
     (λ c.
-    let a = c.before.before.before.args in
+    let a = c.args in
     ap (λ (k : ℕ). set (set a.list.now (2 * a.count) a.cube.pos) k a.cube.neg) (add-one (2 * a.count))
-    ∙ sym (simp (eq-eqb _ _ c.before.if1.false, lt-ltb _ _ c.if2.false))))
+    ∙ sym (simp (eq-eqb _ _ c.if-cube-c.false, lt-ltb _ _ c.if-count-ge64.false))))

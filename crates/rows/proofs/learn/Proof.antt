@@ -24,14 +24,13 @@ learn_spec =
     (λ c. search rules)
     (λ c. search rules)
     (λ c. search rules)
-    (λ c. sym (ap (learnt _) c.before.line.given.1))
-    (λ c. sym (ap (learnt _) c.enum_told2.given.1))
-    (λ c. sym (ap (learnt _) c.enum_told3.given.1))
-    (λ c. sym (ap (learnt _) c.before.line2.given.1))
+    (λ c. sym (ap (learnt _) c.in-Inputs.is))
+    (λ c. sym (ap (learnt _) c.in-Output.is))
+    (λ c. sym (ap (learnt _) c.in-Fr.is))
+    (λ c. sym (ap (learnt _) c.in-Terms.is))
     (λ c.
-    let cube = c.before.before.before.before in
-    let k = cube.before.before.args.known in
-    (λ i. known k.n k.one k.fr k.counted k.told (k.terms + 1) (c.before.more.ensures i) (c.more2.ensures i)) ∙ sym (ap (learnt k) cube.line3.given.1))
+    let k = c.args.known in
+    (λ i. known k.n k.one k.fr k.counted k.told (k.terms + 1) (c.more.ensures i) (c.more-in-Term.ensures i)) ∙ sym (ap (learnt k) c.in-Term.is))
     (λ c. search rules)
     (λ c. search rules)
     (λ c. search rules))

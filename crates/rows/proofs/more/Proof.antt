@@ -10,5 +10,5 @@ more_spec =
     tie.close
     (tie.spec
     (λ c. search rules)
-    (λ c. simp (eq-eqb _ _ c.if1.true))
-    (λ c. simp (ne_eqb _ _ c.if1.false) (omega arith)))
+    (λ c. simp (eq-eqb _ _ c.if-out-c.true))
+    (λ c. simp (ne_eqb _ _ c.if-out-c.false) (omega arith)))

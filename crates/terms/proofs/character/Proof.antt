@@ -6,17 +6,17 @@ use Rattle.bits.specs.Bits.{bit}
 use Rattle.terms.proofs.character.Statement.{statement}
 use Rattle.terms.proofs.character.Tie as tie
 
-returns : tie.Need-returns
+returns : tie.Need-returns-then-pos-i-eq1
 unfolding bit
-returns c = sym (simp (eq-eqb _ 1 c.if1.true))
+returns c = sym (simp (eq-eqb _ 1 c.if-pos-i-eq1.true))
 
-returns_2 : tie.Need-returns-2
+returns_2 : tie.Need-returns-then-neg-i-eq1
 unfolding bit
-returns_2 c = sym (simp (ne_eqb _ 1 c.before.if1.false, eq-eqb _ 1 c.if2.true))
+returns_2 c = sym (simp (ne_eqb _ 1 c.if-pos-i-eq1.false, eq-eqb _ 1 c.if-neg-i-eq1.true))
 
-returns_3 : tie.Need-returns-3
+returns_3 : tie.Need-returns
 unfolding bit
-returns_3 c = sym (simp (ne_eqb _ 1 c.before.if1.false, ne_eqb _ 1 c.if2.false))
+returns_3 c = sym (simp (ne_eqb _ 1 c.if-pos-i-eq1.false, ne_eqb _ 1 c.if-neg-i-eq1.false))
 
 pub character_spec : {M : Type 1} → statement M
 character_spec = tie.close (tie.spec (λ c. search rules) returns (λ c. search rules) returns_2 returns_3)

@@ -31,8 +31,8 @@ pub ended_spec : {M : Type 1} → statement M
 ended_spec =
     tie.close
     (tie.spec
-    (λ c. sym (at_end _ _ c.if1.true))
+    (λ c. sym (at_end _ _ c.if-text-at.true))
     (λ c. search rules)
-    (λ c. sym (at_char _ _ c.before.before.if1.false true (simp (eq-eqb _ _ c.if2.true))))
+    (λ c. sym (at_char _ _ c.if-text-at.false true (simp (eq-eqb _ _ c.if-text-at-eq10.true))))
     (λ c. search rules)
-    (λ c. sym (at_char _ _ c.before.before.before.if1.false _ (simp (ne_eqb _ _ c.before.if2.false)))))
+    (λ c. sym (at_char _ _ c.if-text-at.false _ (simp (ne_eqb _ _ c.if-text-at-eq10.false)))))

@@ -37,64 +37,52 @@ pub keyword_spec : {M : Type 1} → statement M
 keyword_spec =
     tie.close
     (tie.spec
-    (λ c. search rules)
     (λ c κs. search rules)
     (λ c.
-    let a = c.before.before.before.before.before.args in
-    named a.name.now dot_e (after a.alone a.v.now) c.before.same.ensures c.if1.true _
+    let a = c.args in
+    named a.name.now dot_e (after a.alone a.v.now) c.same.ensures c.if-same.true _
     (line_e _))
-    (λ c. search rules)
     (λ c κs. search rules)
     (λ c κs. search rules)
     (λ c.
-    let a = c.before.before.before.before.before.before.before.before.before.before.args in
-    named a.name.now dot_i (after a.alone a.v.now) c.before.before.before.same2.ensures c.before.before.if2.true _
-    (line_i a.v.now a.alone ∙ kept_number Inputs _ _ c.before.number.ensures c.if3.true))
+    let a = c.args in
+    named a.name.now dot_i (after a.alone a.v.now) c.same-2.ensures c.if-same-2.true _
+    (line_i a.v.now a.alone ∙ kept_number Inputs _ _ c.number-n.ensures c.if-n.true))
     (λ c.
-    let a = c.before.before.before.before.before.before.before.before.before.before.args in
-    named a.name.now dot_i (after a.alone a.v.now) c.before.before.before.same2.ensures c.before.before.if2.true _
-    (line_i a.v.now a.alone ∙ dropped_number Inputs _ _ c.before.number.ensures c.if3.false))
-    (λ c. search rules)
-    (λ c κs. search rules)
-    (λ c. search rules)
-    (λ c κs. search rules)
-    (λ c.
-    let a = c.before.before.before.before.before.before.before.before.before.before.before.before.before.before.args in
-    named a.name.now dot_o (after a.alone a.v.now) c.before.before.before.before.same3.ensures c.before.before.before.if4.true _
-    (line_o a.v.now a.alone ∙ kept Output c.before.only.ensures c.if5.true))
-    (λ c.
-    let a = c.before.before.before.before.before.before.before.before.before.before.before.before.before.before.args in
-    named a.name.now dot_o (after a.alone a.v.now) c.before.before.before.before.same3.ensures c.before.before.before.if4.true _
-    (line_o a.v.now a.alone ∙ dropped Output c.before.only.ensures c.if5.false))
-    (λ c. search rules)
-    (λ c κs. search rules)
-    (λ c. search rules)
-    (λ c κs. search rules)
-    (λ c.
-    let a = c.before.before.before.before.before.before.before.before.before.before.before.before.before.before.before.before.before.args in
-    named a.name.now dot_type (after a.alone a.v.now) c.before.before.before.before.same4.ensures c.before.before.before.if6.true _
-    (line_type a.v.now a.alone ∙ kept Fr c.before.only2.ensures c.if7.true))
-    (λ c.
-    let a = c.before.before.before.before.before.before.before.before.before.before.before.before.before.before.before.before.before.args in
-    named a.name.now dot_type (after a.alone a.v.now) c.before.before.before.before.same4.ensures c.before.before.before.if6.true _
-    (line_type a.v.now a.alone ∙ dropped Fr c.before.only2.ensures c.if7.false))
-    (λ c. search rules)
+    let a = c.args in
+    named a.name.now dot_i (after a.alone a.v.now) c.same-2.ensures c.if-same-2.true _
+    (line_i a.v.now a.alone ∙ dropped_number Inputs _ _ c.number-n.ensures c.if-n.false))
     (λ c κs. search rules)
     (λ c κs. search rules)
     (λ c.
-    let a = c.before.before.before.before.before.before.before.before.before.before.before.before.before.before.before.before.before.before.before.args in
-    named a.name.now dot_p (after a.alone a.v.now) c.before.before.before.same5.ensures c.before.before.if8.true _
-    (line_p a.v.now a.alone ∙ kept_number Terms _ _ c.before.number2.ensures c.if9.true))
+    let a = c.args in
+    named a.name.now dot_o (after a.alone a.v.now) c.same-3.ensures c.if-same-3.true _
+    (line_o a.v.now a.alone ∙ kept Output c.only.ensures c.if-only.true))
     (λ c.
-    let a = c.before.before.before.before.before.before.before.before.before.before.before.before.before.before.before.before.before.before.before.args in
-    named a.name.now dot_p (after a.alone a.v.now) c.before.before.before.same5.ensures c.before.before.if8.true _
-    (line_p a.v.now a.alone ∙ dropped_number Terms _ _ c.before.number2.ensures c.if9.false))
+    let a = c.args in
+    named a.name.now dot_o (after a.alone a.v.now) c.same-3.ensures c.if-same-3.true _
+    (line_o a.v.now a.alone ∙ dropped Output c.only.ensures c.if-only.false))
+    (λ c κs. search rules)
+    (λ c κs. search rules)
     (λ c.
-    let p = c in
-    let t = p.before.before.before in
-    let o = t.before.before.before in
-    let i = o.before.before.before in
-    let e = i.before.before.before in
+    let a = c.args in
+    named a.name.now dot_type (after a.alone a.v.now) c.same-4.ensures c.if-same-4.true _
+    (line_type a.v.now a.alone ∙ kept Fr c.only-then-same-4.ensures c.if-only-2.true))
+    (λ c.
+    let a = c.args in
+    named a.name.now dot_type (after a.alone a.v.now) c.same-4.ensures c.if-same-4.true _
+    (line_type a.v.now a.alone ∙ dropped Fr c.only-then-same-4.ensures c.if-only-2.false))
+    (λ c κs. search rules)
+    (λ c κs. search rules)
+    (λ c.
+    let a = c.args in
+    named a.name.now dot_p (after a.alone a.v.now) c.same-5.ensures c.if-same-5.true _
+    (line_p a.v.now a.alone ∙ kept_number Terms _ _ c.number-k.ensures c.if-k.true))
+    (λ c.
+    let a = c.args in
+    named a.name.now dot_p (after a.alone a.v.now) c.same-5.ensures c.if-same-5.true _
+    (line_p a.v.now a.alone ∙ dropped_number Terms _ _ c.number-k.ensures c.if-k.false))
+    (λ c.
     sym
-    (line_unknown _ _ (sym e.before.same.ensures ∙ e.if1.false) (sym i.before.same2.ensures ∙ i.if2.false) (sym o.before.same3.ensures ∙ o.if4.false)
-    (sym t.before.same4.ensures ∙ t.if6.false) (sym p.before.same5.ensures ∙ p.if8.false))))
+    (line_unknown _ _ (sym c.same.ensures ∙ c.if-same.false) (sym c.same-2.ensures ∙ c.if-same-2.false) (sym c.same-3.ensures ∙ c.if-same-3.false)
+    (sym c.same-4.ensures ∙ c.if-same-4.false) (sym c.same-5.ensures ∙ c.if-same-5.false))))

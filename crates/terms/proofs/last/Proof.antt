@@ -8,6 +8,6 @@ pub last_spec : {M : Type 1} → statement M
 last_spec =
     tie.close
     (tie.spec
-    (λ c. simp (le-ltb _ _ c.if1.true))
+    (λ c. simp (le-ltb _ _ c.if-end-start.true))
     (λ c κs. search rules)
-    (λ c. simp (lt-ltb _ _ c.before.if1.false) c.ended.ensures))
+    (λ c. simp (lt-ltb _ _ c.if-end-start.false) c.ended.ensures))

@@ -7,7 +7,6 @@ use native.Mathlib.Numerals.{add-one}
 use native.Mathlib.Omega.{arith}
 use native.Mathlib.Nat.{pow-suc}
 use borrow.Author.Rules.{rules}
-use borrow.Author.Tests.{not-true, not-false}
 use lib.Dec.{eqb}
 use lib.ListN.{length, get_or, drop, drop_of_length-le}
 use lib.Pow.{pow_mono}
@@ -31,10 +30,10 @@ record Masked (w : List ℕ) (pos neg weight i : ℕ) : Type 0 where
   zeros : neg ≡ so_far i w off_char
   rest : each_in is_input w ≡ each_in is_input (drop i w)
 
-abbrev invariant_loop : tie.invariant_loop
+abbrev invariant_loop : tie.invariant-loop-i
 invariant_loop w out pos₀ neg₀ weight₀ i₀ pos neg weight i = Masked w pos neg weight i
 
-abbrev decreases_loop : tie.decreases_loop
+abbrev decreases_loop : tie.decreases-loop-i
 decreases_loop w out pos₀ neg₀ weight₀ i₀ pos neg weight i = length w - i
 
 none_yet : (w : List ℕ) → Masked w 0 0 1 0
@@ -88,33 +87,28 @@ masks_spec =
     (λ c κs. search rules)
     (λ c κs. search rules)
     (λ c.
-    let turn = c.before.before.before.before in
-    let bad = refused_at _ _ _ _ _ turn.before.loop.invariant turn.loop-test.true (sym c.before.before.input.ensures ∙ not-true _ c.before.if1.true) in
+    let bad = refused_at _ _ _ _ _ c.loop-i.invariant c.loop-i-test.true (sym c.input.ensures ∙ c.if-not-input.true) in
     c.none.ensures ∙ sym (simp bad))
     (λ c κs. search rules)
     (λ c.
-    let loop = c.before.before.before.before.before in
-    let low = narrow _ _ _ _ _ loop.loop.invariant loop.before.before.requires in
-    omega (arith, c.worth.ensures.0, loop.loop.invariant.weighed))
+    let low = narrow _ _ _ _ _ c.loop-i.invariant c.requires in
+    omega (arith, c.worth-pos.ensures.0, c.loop-i.invariant.weighed))
     (λ c κs. search rules)
     (λ c.
-    let loop = c.before.before.before.before.before.before in
-    let low = narrow _ _ _ _ _ loop.loop.invariant loop.before.before.requires in
-    omega (arith, c.worth2.ensures.0, loop.loop.invariant.weighed))
+    let low = narrow _ _ _ _ _ c.loop-i.invariant c.requires in
+    omega (arith, c.worth-neg.ensures.0, c.loop-i.invariant.weighed))
     (λ c.
-    let loop = c.before.before.before.before.before.before in
-    let low = narrow _ _ _ _ _ loop.loop.invariant loop.before.before.requires in
-    omega (arith, loop.loop.invariant.weighed))
+    let low = narrow _ _ _ _ _ c.loop-i.invariant c.requires in
+    omega (arith, c.loop-i.invariant.weighed))
     (λ c. search rules)
     (λ c. omega arith)
     (λ c.
-    let turn = c.before.before.before.before.before in
-    one_more _ _ _ _ _ turn.before.loop.invariant turn.loop-test.true (sym c.before.before.before.input.ensures ∙ not-false _ c.before.before.if1.false) _ _ c.before.worth.ensures.1 c.worth2.ensures.1)
-    (λ c. omega (arith, c.before.before.before.requires))
-    (λ c. let low = narrow _ _ _ _ _ c.before.loop.invariant c.before.before.before.requires in omega arith)
-    (λ c. let low = narrow _ _ _ _ _ c.before.loop.invariant c.before.before.before.requires in omega arith)
+    one_more _ _ _ _ _ c.loop-i.invariant c.loop-i-test.true (sym c.input.ensures ∙ c.if-not-input.false) _ _ c.worth-pos.ensures.1 c.worth-neg.ensures.1)
+    (λ c. omega (arith, c.requires))
+    (λ c. let low = narrow _ _ _ _ _ c.loop-i.invariant c.requires in omega arith)
+    (λ c. let low = narrow _ _ _ _ _ c.loop-i.invariant c.requires in omega arith)
     (λ c.
-    let done = c.before.loop.invariant in
-    let all = all_masked _ _ _ _ _ done c.loop-test.false in
-    let w = c.before.before.before.args.w.now in
-    simp all.1 (λ k. cube_as (length w) ((done.ones ∙ ap (λ (i : ℕ). so_far i w on_char) all.0) k) ((done.zeros ∙ ap (λ (i : ℕ). so_far i w off_char) all.0) k) c.before.before.before.args.out)))
+    let done = c.loop-i.invariant in
+    let all = all_masked _ _ _ _ _ done c.loop-i-test.false in
+    let w = c.args.w.now in
+    simp all.1 (λ k. cube_as (length w) ((done.ones ∙ ap (λ (i : ℕ). so_far i w on_char) all.0) k) ((done.zeros ∙ ap (λ (i : ℕ). so_far i w off_char) all.0) k) c.args.out)))

@@ -6,10 +6,10 @@ use Rattle.terms.proofs.Writing.{Begun, begun_none, begun_more, begun_ended}
 use Rattle.terms.proofs.put_term.Statement.{statement}
 use Rattle.terms.proofs.put_term.Tie as tie
 
-abbrev invariant_loop : tie.invariant_loop
+abbrev invariant_loop : tie.invariant-loop-i
 invariant_loop pos neg n c out₀ start i₀ out i = Begun n pos neg c start out₀ out i
 
-abbrev decreases_loop : tie.decreases_loop
+abbrev decreases_loop : tie.decreases-loop-i
 decreases_loop pos neg n c out₀ start i₀ out i = n - i
 
 pub put_term_spec : {M : Type 1} → statement M
@@ -25,12 +25,12 @@ put_term_spec =
     (λ c. omega arith)
     (λ c. omega arith)
     (λ c. omega arith)
-    (λ c. begun_more _ _ _ _ _ _ _ _ c.before.before.loop.invariant c.before.loop-test.true _ c.character.ensures)
+    (λ c. begun_more _ _ _ _ _ _ _ _ c.loop-i.invariant c.loop-i-test.true _ c.character.ensures)
     (λ c. omega arith)
     (λ c. omega arith)
     (λ c. omega arith)
     (λ c. simp length-set (omega arith))
     (λ c. omega arith)
     (λ c. simp length-set (omega arith))
-    (λ c. simp length-set c.before.loop.invariant.room)
-    (λ c. begun_ended _ _ _ _ _ _ _ _ c.before.loop.invariant c.loop-test.false))
+    (λ c. simp length-set c.loop-i.invariant.room)
+    (λ c. begun_ended _ _ _ _ _ _ _ _ c.loop-i.invariant c.loop-i-test.false))

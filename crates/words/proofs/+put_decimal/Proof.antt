@@ -37,34 +37,33 @@ pub +put_decimal_spec : {M : Type 1} → statement M
     reads.Post
     (λ c. search rules)
     (λ c κs. search rules)
-    (λ c. omega (arith, ap length (decimal_short c.before.before.before.args.x c.before.if1.true)))
-    (λ c. omega (arith, ap length (decimal_short c.before.before.before.args.x c.before.if1.true)))
+    (λ c. omega (arith, ap length (decimal_short c.args.x c.if-x-lt10.true)))
+    (λ c. omega (arith, ap length (decimal_short c.args.x c.if-x-lt10.true)))
     (λ c. search rules)
     (λ c.
-    let a = c.before.before.before.args in
-    let one = decimal_short a.x c.before.if1.true in (
+    let a = c.args in
+    let one = decimal_short a.x c.if-x-lt10.true in (
       omega (arith, ap length one),
       ap (λ (d : ℕ). sets a.out.now a.start (d ∷ [])) c.digit.ensures ∙ ap (sets a.out.now a.start) (sym one),
     ))
     (λ c κs.
-    let long = long_length c.before.before.before.args.x c.before.if1.false in
+    let long = long_length c.args.x c.if-x-lt10.false in
     (omega arith, omega arith))
     (λ c. search rules)
     (λ c κs. search rules)
     (λ c.
-    let long = long_length c.before.before.before.before.before.before.before.args.x c.before.before.before.before.before.if1.false in
+    let long = long_length c.args.x c.if-x-lt10.false in
     omega arith)
     (λ c.
-    let long = long_length c.before.before.before.before.before.before.before.args.x c.before.before.before.before.before.if1.false in
+    let long = long_length c.args.x c.if-x-lt10.false in
     omega arith)
     (λ c. search rules)
     (λ c.
-    let put = c.before.before.before in
-    let a = put.before.before.before.before.args in
-    let big = put.before.before.if1.false in
-    let e = put.put_decimal.ensures in (
+    let a = c.args in
+    let big = c.if-x-lt10.false in
+    let e = c.put_decimal-last.ensures in (
       omega (arith, e.0, long_length a.x big),
-      behind a.out.now (decimal (a.x / 10)) _ a.start _ (c.digit2.result ∷ []) e.1 e.0
-          ∙ ap (λ (d : ℕ). sets a.out.now a.start (decimal (a.x / 10) ++ (d ∷ []))) c.digit2.ensures
+      behind a.out.now (decimal (a.x / 10)) _ a.start _ (c.digit-2.result ∷ []) e.1 e.0
+          ∙ ap (λ (d : ℕ). sets a.out.now a.start (decimal (a.x / 10) ++ (d ∷ []))) c.digit-2.ensures
           ∙ ap (sets a.out.now a.start) (sym (decimal_long a.x big)),
     ))

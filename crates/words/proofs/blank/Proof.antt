@@ -7,6 +7,6 @@ pub blank_spec : {M : Type 1} → statement M
 blank_spec =
     tie.close
     (tie.spec
-    (λ c. simp (eq-eqb _ _ c.if1.true))
-    (λ c. simp (ne_eqb _ _ c.before.if1.false, eq-eqb _ _ c.if2.true))
-    (λ c. simp (ne_eqb _ _ c.before.if1.false, ne_eqb _ _ c.if2.false)))
+    (λ c. simp (eq-eqb _ _ c.if-c-eq32.true))
+    (λ c. simp (ne_eqb _ _ c.if-c-eq32.false, eq-eqb _ _ c.if-c-eq9.true))
+    (λ c. simp (ne_eqb _ _ c.if-c-eq32.false, ne_eqb _ _ c.if-c-eq9.false)))

@@ -10,6 +10,6 @@ digit_spec =
     tie.close
     (tie.spec
     (λ c. search rules)
-    (λ c. simp (lt-ltb c.before.args.d 10 c.if1.true))
+    (λ c. simp (lt-ltb c.args.d 10 c.if-d-lt10.true))
     (λ c. search rules)
-    (λ c. simp (le-ltb c.before.args.d 10 c.if1.false) (omega (arith, c.if1.false))))
+    (λ c. simp (le-ltb c.args.d 10 c.if-d-lt10.false) (omega (arith, c.if-d-lt10.false))))

@@ -6,8 +6,7 @@ use Rattle.words.proofs.eight.Tie as tie
 
 returns : tie.Need-returns
 returns c =
-    let a = c.before.before.before.before.before.before.before.before.before.before in
-    eight_here a.args.text.now a.args.at a.requires _ c.joined.ensures
+    eight_here c.args.text.now c.args.at c.requires _ c.joined.ensures
 
 pub eight_spec : {M : Type 1} → statement M
 eight_spec = tie.close (tie.spec (λ c. search rules) (λ c. search rules) (λ c. search rules) (λ c. search rules) (λ c. search rules) (λ c. search rules) (λ c. search rules) (λ c. search rules) (λ c. search rules) (λ c. search rules) (λ c. search rules) (λ c. search rules) (λ c. search rules) (λ c. search rules) (λ c. search rules) (λ c κs. search rules) returns)

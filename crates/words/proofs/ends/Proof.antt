@@ -10,6 +10,6 @@ ends_spec =
     tie.close
     (tie.spec
     (λ c κs. search rules)
-    (λ c. simp (sym c.before.blank.ensures ∙ c.if1.true))
-    (λ c. simp (sym c.before.before.blank.ensures ∙ c.before.if1.false, eq-eqb _ _ c.if2.true))
-    (λ c. simp (sym c.before.before.blank.ensures ∙ c.before.if1.false, ne_eqb _ _ c.if2.false)))
+    (λ c. simp (sym c.blank.ensures ∙ c.if-blank.true))
+    (λ c. simp (sym c.blank.ensures ∙ c.if-blank.false, eq-eqb _ _ c.if-c-eq10.true))
+    (λ c. simp (sym c.blank.ensures ∙ c.if-blank.false, ne_eqb _ _ c.if-c-eq10.false)))

@@ -6,10 +6,10 @@ use Rattle.words.proofs.Marks.{marks, repeated, first_mark}
 use Rattle.words.proofs.first_lf.Statement.{statement}
 use Rattle.words.proofs.first_lf.Tie as tie
 
-add_others : tie.Need-overflow-add-others
+add_others : tie.Need-overflow_add-others
 add_others c = record { fits = omega (arith, and_le_r (bit_xor c.args.x 723401728380766730) 9187201950435737471) }
 
-cast_result : tie.Need-overflow-cast-result
+cast_result : tie.Need-overflow_cast-result
 cast_result c = record { fits = omega (arith, trailing_le 64 (marks 723401728380766730 9187201950435737471 9259542123273814144 c.args.x)) }
 
 returns : tie.Need-returns

@@ -9,9 +9,8 @@ use Rattle.words.proofs.put_number.Tie as tie
 
 returns : tie.Need-returns
 returns c =
-    let put = c.before.before in
-    let a = put.before.before.before.args in
-    let e = put.put_decimal.ensures in
+    let a = c.args in
+    let e = c.put_decimal-end.ensures in
     (omega (arith, e.0), behind a.out.now (decimal a.x) _ a.start _ (a.next ∷ []) e.1 e.0)
 
 pub put_number_spec : {M : Type 1} → statement M

@@ -7,10 +7,10 @@ use Rattle.words.proofs.Scans.{Alike, alike_starts, other_length, alike_not, ali
 use Rattle.words.proofs.same.Statement.{statement}
 use Rattle.words.proofs.same.Tie as tie
 
-abbrev invariant_loop : tie.invariant_loop
+abbrev invariant_loop : tie.invariant-loop-i
 invariant_loop w v i₀ i = Alike w v i
 
-abbrev decreases_loop : tie.decreases_loop
+abbrev decreases_loop : tie.decreases-loop-i
 decreases_loop w v i₀ i = length w - i
 
 pub same_spec : {M : Type 1} → statement M
@@ -19,12 +19,12 @@ same_spec =
     (tie.spec
     invariant_loop
     decreases_loop
-    (λ c. sym (other_length _ _ c.if1.true))
-    (λ c. alike_starts _ _ c.if1.false)
+    (λ c. sym (other_length _ _ c.if-w-v.true))
+    (λ c. alike_starts _ _ c.if-w-v.false)
     (λ c. omega arith)
     (λ c. omega arith)
-    (λ c. sym (alike_not _ _ _ c.before.before.before.before.loop.invariant c.before.before.before.loop-test.true c.if2.true))
+    (λ c. sym (alike_not _ _ _ c.loop-i.invariant c.loop-i-test.true c.if-w-i.true))
     (λ c. omega arith)
     (λ c. omega arith)
-    (λ c. alike_goes _ _ _ c.before.before.before.before.loop.invariant c.before.before.before.loop-test.true c.if2.false)
-    (λ c. sym (alike_ends _ _ _ c.before.loop.invariant c.loop-test.false)))
+    (λ c. alike_goes _ _ _ c.loop-i.invariant c.loop-i-test.true c.if-w-i.false)
+    (λ c. sym (alike_ends _ _ _ c.loop-i.invariant c.loop-i-test.false)))

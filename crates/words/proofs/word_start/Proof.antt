@@ -10,10 +10,10 @@ use Rattle.words.proofs.Scans.{Scan, scan_starts, scan_found, scan_goes, scan_en
 use Rattle.words.proofs.word_start.Statement.{statement}
 use Rattle.words.proofs.word_start.Tie as tie
 
-abbrev invariant_loop : tie.invariant_loop
+abbrev invariant_loop : tie.invariant-loop-i
 invariant_loop text at i₀ i = Scan (λ c. not (is_blank c)) text at i
 
-abbrev decreases_loop : tie.decreases_loop
+abbrev decreases_loop : tie.decreases-loop-i
 decreases_loop text at i₀ i = length text - i
 
 pub word_start_spec : {M : Type 1} → statement M
@@ -22,11 +22,11 @@ word_start_spec =
     (tie.spec
     invariant_loop
     decreases_loop
-    (λ c. scan_starts _ _ _ c.before.requires)
+    (λ c. scan_starts _ _ _ c.requires)
     (λ c. omega arith)
     (λ c κs. search rules)
-    (λ c. scan_found _ _ _ _ c.before.before.before.before.loop.invariant c.before.before.before.loop-test.true (ap not (sym c.before.blank.ensures) ∙ c.if1.true))
+    (λ c. scan_found _ _ _ _ c.loop-i.invariant c.loop-i-test.true (ap not (sym c.blank.ensures ∙ c.if-not-blank.true)))
     (λ c. omega arith)
     (λ c. omega arith)
-    (λ c. scan_goes _ _ _ _ c.before.before.before.before.loop.invariant c.before.before.before.loop-test.true (ap not (sym c.before.blank.ensures) ∙ c.if1.false))
-    (λ c. scan_ends _ _ _ _ c.before.loop.invariant c.loop-test.false))
+    (λ c. scan_goes _ _ _ _ c.loop-i.invariant c.loop-i-test.true (ap not (sym c.blank.ensures ∙ c.if-not-blank.false)))
+    (λ c. scan_ends _ _ _ _ c.loop-i.invariant c.loop-i-test.false))
