@@ -1,14 +1,14 @@
 // Reading a program's input, in whatever portions it comes, into a room that is lent. A read that fails is not the input's end.
 #![tactic(auto)]
 
-ghost use Rattle.std.specs.Prelude.{◌≡◌, ℕ, ◌<◌, ◌≤◌, IfOk, OnErr, length, take};
+ghost use Rattle.std.specs.Prelude.{◌≡◌, ℕ, ◌<◌, ◌≤◌, IfOk, OnErr, MatchResult, length, take};
 ghost use Rattle.std.specs.Io.{ReadsAtMost};
 ghost use Rattle.std.specs.Io.KnownBytes.{Consumes, IsAtEnd};
 ghost use Rattle.std.specs.Process.{exit_status};
 
 use std::io::{Read, Write};
 use std::process::ExitCode;
-use std::{io, str};
+use std::{fmt, io, str};
 
 // Reads until the buffer is full, the input ends or a read fails, and returns how many bytes stand at the buffer's start.
 pub fn read_whole<R: Read>(reader: &mut R, buf: &mut [u8]) -> io::Result<usize>
@@ -29,21 +29,51 @@ pub fn read_whole<R: Read>(reader: &mut R, buf: &mut [u8]) -> io::Result<usize>
     Ok(done)
 }
 
-// Tells on standard error what failed and why, in the system's words alone, without the number that std adds to them. What is
-// returned is the exit status of a program that failed; where standard error fails too, nobody can be told.
-pub fn fail(rt: &impl Eprint, what: &str, error: &io::Error) -> ExitCode
-    ensures { exit_status result ≡ 1 }
+// Why a program has no answer, or could not write it.
+#[derive(Drop)]
+pub enum Failure {
+    Input(io::Error),
+    Output(io::Error),
+}
+
+// The system's words for an error alone, without the number that std adds to them.
+#[derive(Drop)]
+struct Reason<'a>(&'a io::Error);
+
+impl fmt::Display for Reason<'_> {
+    fn fmt<W: fmt::Write>(&self, f: &mut fmt::Formatter<W>) -> fmt::Result {
+        let mut room = [0u8; 128];
+        let mut left = &mut room[..];
+        let _ = write!(left, "{}", self.0);
+        let unused = left.len();
+        let len = room.len().saturating_sub(unused);
+        let told = str::from_utf8(&room[..len]).unwrap_or("");
+        let reason = match told.split_once(" (os error ") {
+            Some((words, _)) => words,
+            None => told,
+        };
+        f.write_str(reason)
+    }
+}
+
+impl fmt::Display for Failure {
+    fn fmt<W: fmt::Write>(&self, f: &mut fmt::Formatter<W>) -> fmt::Result {
+        match self {
+            Failure::Input(e) => write!(f, "standard input: {}", Reason(e)),
+            Failure::Output(e) => write!(f, "standard output: {}", Reason(e)),
+        }
+    }
+}
+
+// How a program ends: one that failed tells why in a line on standard error. Where that fails too, nobody can be told.
+pub fn end(rt: &impl Eprint, program: &str, done: Result<(), Failure>) -> ExitCode
+    ensures { MatchResult done (λ _. exit_status result ≡ 0) (λ _. exit_status result ≡ 1) }
 {
-    let mut room = [0u8; 128];
-    let mut left = &mut room[..];
-    let _ = write!(left, "{error}");
-    let unused = left.len();
-    let len = room.len().saturating_sub(unused);
-    let told = str::from_utf8(&room[..len]).unwrap_or("");
-    let reason = match told.split_once(" (os error ") {
-        Some((words, _)) => words,
-        None => told,
-    };
-    let _ = rt.eprintln(format_args!("{what}: {reason}"));
-    ExitCode::FAILURE
+    match done {
+        Ok(()) => ExitCode::SUCCESS,
+        Err(failure) => {
+            let _ = rt.eprintln(format_args!("{program}: {failure}"));
+            ExitCode::FAILURE
+        }
+    }
 }
