@@ -1,3 +1,2 @@
 // Claims: definitions and laws, no code.
 #![tactic(auto)]
-

@@ -10,8 +10,7 @@ ghost use Rattle.matcher.specs.Matching.{matching, claim_for};
 ghost use Rattle.writer.specs.Writing.{writing, record_bytes};
 ghost use Rattle.tables.specs.Tables.{table_reading, record_of, table_writing, table_of};
 
-#[unsafe(no_mangle)]
-pub extern "C" fn zap_match(f: &[u8], g: &[u8], out: &mut [u8]) -> u64
+pub fn zap_match(f: &[u8], g: &[u8], out: &mut [u8]) -> u64
     ensures value { result ≡ packed (matching f.now g.now (length out.old)) }
     ensures tells { Tells (matching f.now g.now (length out.old)) result }
     ensures out_after { out.new ≡ buffer_after (matching f.now g.now (length out.old)) (claim_for f.now g.now) out.old }
@@ -19,8 +18,7 @@ pub extern "C" fn zap_match(f: &[u8], g: &[u8], out: &mut [u8]) -> u64
     answers::pack(matcher::find(f, g, out))
 }
 
-#[unsafe(no_mangle)]
-pub extern "C" fn zap_check(f: &[u8], g: &[u8], claim: &[u8]) -> u64
+pub fn zap_check(f: &[u8], g: &[u8], claim: &[u8]) -> u64
     ensures value { result ≡ packed (checking f.now g.now claim.now) }
     ensures tells { Tells (checking f.now g.now claim.now) result }
 {
@@ -28,8 +26,7 @@ pub extern "C" fn zap_check(f: &[u8], g: &[u8], claim: &[u8]) -> u64
 }
 
 // The record's on patterns, off patterns and inputs in use, in this order, at the start of `figures`, if it has room for three.
-#[unsafe(no_mangle)]
-pub extern "C" fn zap_summary(f: &[u8], figures: &mut [u64]) -> u64
+pub fn zap_summary(f: &[u8], figures: &mut [u64]) -> u64
     ensures leaves { Leaves (packed (summing f.now).answer) (figures_of (summing f.now)) figures.old figures.new result }
     ensures tells { Tells (summing f.now).answer result }
 {
@@ -43,8 +40,7 @@ pub extern "C" fn zap_summary(f: &[u8], figures: &mut [u64]) -> u64
 }
 
 // A list of an odd length is refused at its end, which can lie anywhere: so `tell`, and not `pack`.
-#[unsafe(no_mangle)]
-pub extern "C" fn zap_write(n: u8, on: &[u8], off: &[u8], out: &mut [u8]) -> u64
+pub fn zap_write(n: u8, on: &[u8], off: &[u8], out: &mut [u8]) -> u64
     ensures value { result ≡ packed (told (writing n on.now off.now (length out.old))) }
     ensures tells { Tells (told (writing n on.now off.now (length out.old))) result }
     ensures out_after { out.new ≡ buffer_after (writing n on.now off.now (length out.old)) (record_bytes n on.now off.now) out.old }
@@ -53,8 +49,7 @@ pub extern "C" fn zap_write(n: u8, on: &[u8], off: &[u8], out: &mut [u8]) -> u64
 }
 
 // A line can have any number: so `tell`, and not `pack`.
-#[unsafe(no_mangle)]
-pub extern "C" fn zap_read_table(text: &[u8], out: &mut [u8]) -> u64
+pub fn zap_read_table(text: &[u8], out: &mut [u8]) -> u64
     ensures value { result ≡ packed (told (table_reading text.now (length out.old))) }
     ensures tells { Tells (told (table_reading text.now (length out.old))) result }
     ensures out_after { out.new ≡ buffer_after (table_reading text.now (length out.old)) (record_of text.now) out.old }
@@ -62,8 +57,7 @@ pub extern "C" fn zap_read_table(text: &[u8], out: &mut [u8]) -> u64
     answers::tell(tables::read_table(text, out))
 }
 
-#[unsafe(no_mangle)]
-pub extern "C" fn zap_write_table(record: &[u8], out: &mut [u8]) -> u64
+pub fn zap_write_table(record: &[u8], out: &mut [u8]) -> u64
     ensures value { result ≡ packed (table_writing «record».now (length out.old)) }
     ensures tells { Tells (table_writing «record».now (length out.old)) result }
     ensures out_after { out.new ≡ buffer_after (table_writing «record».now (length out.old)) (table_of «record».now) out.old }

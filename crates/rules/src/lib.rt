@@ -1,3 +1,2 @@
 // Choice rules: definitions and laws, no code.
 #![tactic(auto)]
-

@@ -1,3 +1,2 @@
 // Wirings: definitions and laws, no code.
 #![tactic(auto)]
-

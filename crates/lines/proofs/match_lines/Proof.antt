@@ -13,16 +13,11 @@ use Rattle.lines.proofs.match_lines.Tie as tie
 
 returns : tie.Need-returns
 returns c =
-    let put = c.before.before in
-    let shown = put.before.before.before in
-    let found = shown.before.before in
-    let lent = found.before.before in
-    let first = lent.before.before.before in
-    let a = first.before.before.before.args in (
-      omega (arith, length-take shown.shown.result found.find.new.1.1.0),
-      subst (λ (t : List ℕ). Leaves (length t) t a.out.now put.put_text.new.1.1.0 put.put_text.result)
-          (match_printed _ _ _ _ _ lent.lent.ensures found.find.ensures _ shown.shown.ensures a.input.now _ first.this_record.ensures lent.before.before.what_follows.ensures lent.before.this_record2.ensures)
-          put.put_text.ensures.1,
+    let a = c.args in (
+      omega (arith, length-take c.shown-len.result c.find-answer.new.out),
+      subst (λ (t : List ℕ). Leaves (length t) t a.out.now c.put_text.new.out c.put_text.result)
+          (match_printed _ _ _ _ _ c.lent-claim.ensures c.find-answer.ensures _ c.shown-len.ensures a.input.now _ c.this_record-f.ensures c.what_follows.ensures c.this_record-g.ensures)
+          c.put_text.ensures.1,
     )
 
 pub match_lines_spec : {M : Type 1} → statement M
@@ -36,8 +31,8 @@ match_lines_spec =
     (λ c. search rules)
     (λ c κs. search rules)
     (λ c κs. search rules)
-    (λ c. shown_within _ _ _ _ _ c.before.before.before.before.lent.ensures c.before.before.find.ensures _ c.shown.ensures)
-    (λ c. sym (length-take-le _ _ (shown_within _ _ _ _ _ c.before.before.before.before.before.lent.ensures c.before.before.before.find.ensures _ c.before.shown.ensures)))
-    (λ c κs. let shown = c.before.before.shown in let after = c.before.before.before.before.find.new.1.1.0 in omega (arith, length-take shown.result after))
+    (λ c. shown_within _ _ _ _ _ c.lent-claim.ensures c.find-answer.ensures _ c.shown-len.ensures)
+    (λ c. sym (length-take-le _ _ (shown_within _ _ _ _ _ c.lent-claim.ensures c.find-answer.ensures _ c.shown-len.ensures)))
+    (λ c κs. let shown = c.shown-len in let after = c.find-answer.new.out in omega (arith, length-take shown.result after))
     (λ c. search rules)
     returns)

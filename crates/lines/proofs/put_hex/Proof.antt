@@ -7,10 +7,10 @@ use Rattle.lines.proofs.Texts.{Spelt, spelt_none, spelt_room, spelt_one, spelt_a
 use Rattle.lines.proofs.put_hex.Statement.{statement}
 use Rattle.lines.proofs.put_hex.Tie as tie
 
-abbrev invariant_loop : tie.invariant_loop
+abbrev invariant_loop : tie.invariant-loop-i
 invariant_loop bytes out₀ start i₀ at₀ out i at = Spelt out₀ start bytes out i at
 
-abbrev decreases_loop : tie.decreases_loop
+abbrev decreases_loop : tie.decreases-loop-i
 decreases_loop bytes out₀ start i₀ at₀ out i at = length bytes - i
 
 pub put_hex_spec : {M : Type 1} → statement M
@@ -22,15 +22,14 @@ put_hex_spec =
     (λ c. spelt_none _ _ _)
     (λ c. search rules)
     (λ c. omega arith)
-    (λ c κs. omega (arith, (c.shared_slice_known2.given c.before.before.loop.i).fits))
+    (λ c κs. omega (arith, (c.shared_slice_known-in-loop-i-1.given c.loop-i.i).fits))
     (λ c κs. omega arith)
     (λ c κs. search rules)
     (λ c. search rules)
-    (λ c κs. let loop = c.before.before.before.before.before.before.before in spelt_room _ _ _ _ _ _ loop.loop.invariant c.before.before.before.before.before.before.loop-test.true loop.before.before.before.requires)
-    (λ c. let loop = c.before.before.before.before.before.before.before.before.before.before in let room = spelt_room _ _ _ _ _ _ loop.loop.invariant c.before.before.before.before.before.before.before.before.before.loop-test.true loop.before.before.before.requires in omega (arith, room))
+    (λ c κs. spelt_room _ _ _ _ _ _ c.loop-i.invariant c.loop-i-test.true c.requires)
+    (λ c. let room = spelt_room _ _ _ _ _ _ c.loop-i.invariant c.loop-i-test.true c.requires in omega (arith, room))
     (λ c. omega arith)
     (λ c.
-    let loop = c.before.before.before.before.before.before.before.before.before.before in
-    spelt_one _ _ _ _ _ _ loop.loop.invariant c.before.before.before.before.before.before.before.before.before.loop-test.true _ _ _ _ c.before.before.before.before.before.before.before.digit.ensures c.before.before.before.before.before.before.digit2.ensures c.before.before.before.before.before.gap.ensures c.before.before.put.ensures)
-    (λ c. c.before.loop.invariant.room)
-    (λ c. spelt_all _ _ _ _ _ _ c.before.loop.invariant c.loop-test.false))
+    spelt_one _ _ _ _ _ _ c.loop-i.invariant c.loop-i-test.true _ _ _ _ c.digit.ensures c.digit-in-loop-i.ensures c.gap.ensures c.put.ensures)
+    (λ c. c.loop-i.invariant.room)
+    (λ c. spelt_all _ _ _ _ _ _ c.loop-i.invariant c.loop-i-test.false))

@@ -9,11 +9,11 @@ use Rattle.lines.proofs.Texts.{hex_length, text_length, text_stored}
 use Rattle.lines.proofs.put_text.Statement.{statement}
 use Rattle.lines.proofs.put_text.Tie as tie
 
-returns : tie.Need-returns
+returns : tie.Need-returns-then-out-needed
 returns c =
-    let a = c.before.before.before.before.before.before.args in
+    let a = c.args in
     let long = text_length a.answer a.claim.now in
-    let e = c.before.before.put_answer.ensures in (
+    let e = c.put_answer-len.ensures in (
       omega arith,
       record {
         returned = omega arith;
@@ -21,20 +21,16 @@ returns c =
       },
     )
 
-returns_2 : tie.Need-returns-2
+returns_2 : tie.Need-returns
 returns_2 c =
-    let hexed = c.before.before in
-    let copied = hexed.before.before.before.before in
-    let tested = copied.before.before.before in
-    let made = tested.before.before in
-    let a = made.before.before.before.before.args in
-    let e = made.put_answer.ensures in
+    let a = c.args in
+    let e = c.put_answer-len.ensures in
     let long = text_length a.answer a.claim.now in (
       omega arith,
       record {
         returned = omega arith;
         slice =
-            text_stored a.answer a.claim.now _ _ a.out.now _ _ _ e.1.0 e.0 e.1.1 copied.put.ensures hexed.put_hex.ensures
+            text_stored a.answer a.claim.now _ _ a.out.now _ _ _ e.1.0 e.0 e.1.1 c.put.ensures c.put_hex.ensures
             ∙ sym (stored_with_room (text a.answer a.claim.now) a.out.now (omega arith));
       },
     )
@@ -50,7 +46,7 @@ put_text_spec =
     returns
     (λ c. omega arith)
     (λ c. sym (length-take-le _ _ (omega arith)))
-    (λ c κs. let made = c.before.before.before.before.put_answer in omega (arith, length-take-le made.result made.new.1.0 (omega arith)))
-    (λ c κs. omega (arith, hex_length c.before.before.before.before.before.before.before.before.before.before.before.before.args.claim.now))
+    (λ c κs. let made = c.put_answer-len in omega (arith, length-take-le made.result made.new.out (omega arith)))
+    (λ c κs. omega (arith, hex_length c.args.claim.now))
     (λ c. search rules)
     returns_2)

@@ -12,5 +12,5 @@ this_record_spec =
     tie.close
     (tie.spec
     (λ c κs. search rules)
-    (λ c. sym (length-take-le _ _ (omega (arith, c.before.cut.ensures))))
-    (λ c. cut_take _ _ _ c.before.cut.ensures))
+    (λ c. sym (length-take-le _ _ (omega (arith, c.cut-end.ensures))))
+    (λ c. cut_take _ _ _ c.cut-end.ensures))

@@ -12,4 +12,4 @@ what_follows_spec =
     (λ c. search rules)
     (λ c. search rules)
     (λ c. search rules)
-    (λ c. cut_drop _ _ _ c.before.cut.ensures))
+    (λ c. cut_drop _ _ _ c.cut-end.ensures))

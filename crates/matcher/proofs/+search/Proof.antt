@@ -32,10 +32,10 @@ search_at t = and 2 kinds.ps (is 2 kinds.ps μ t) reads.Pre
 abbrev search_below : ℕ → In 2 kinds.ps
 search_below t = and 2 kinds.ps (falls 2 kinds.ps ◌<◌ μ t) reads.Pre
 
-abbrev invariant_loop : lts.invariant_loop
+abbrev invariant_loop : lts.invariant-loop-c
 invariant_loop w q f g length₀ c₀ length c = Searching w q f g c length
 
-abbrev decreases_loop : lts.decreases_loop
+abbrev decreases_loop : lts.decreases-loop-c
 decreases_loop w q f g length₀ c₀ length c = 2 * w.n - c
 
 pub +search_spec : {M : Type 1} → statement M
@@ -56,36 +56,35 @@ pub +search_spec : {M : Type 1} → statement M
     invariant_loop
     decreases_loop
     (λ c κs.
-    let h = c.before.before.requires.1 in
+    let h = c.requires.1 in
     let framed = framed_both _ _ h.1.1 in
     (h.0, (framed.0.long, framed.1.long)))
     (λ c.
-    let h = c.before.before.before.before.requires.1 in
-    searched_dead _ _ _ _ h.0 (death_at _ _ _ _ h.1.0 h.1.1) (found_as _ _ c.before.first_dead.ensures c.if1.true))
+    let h = c.requires.1 in
+    searched_dead _ _ _ _ h.0 (death_at _ _ _ _ h.1.0 h.1.1) (found_as _ _ c.first_dead.ensures c.if-first_dead.true))
     (λ c.
-    let h = c.before.before.before.before.before.before.requires.1 in
-    searched_whole _ _ _ _ h.0 (death_at _ _ _ _ h.1.0 h.1.1) (found_as _ _ c.before.before.before.first_dead.ensures c.before.before.if1.false) c.if2.true)
-    (λ c κs. (c.before.before.before.before.before.before.requires.1.0, omega arith))
-    (λ c. searching_start _ _ _ _ c.before.before.before.before.before.before.before.requires.1.0 (found_as _ _ c.before.before.before.before.first_dead.ensures c.before.before.before.if1.false) c.before.if2.false _ c.offer.ensures)
-    (λ c. omega (arith, c.before.before.before.before.before.before.before.before.before.requires.1.0.few))
+    let h = c.requires.1 in
+    searched_whole _ _ _ _ h.0 (death_at _ _ _ _ h.1.0 h.1.1) (found_as _ _ c.first_dead.ensures c.if-first_dead.false) c.if-w.true)
+    (λ c κs. (c.requires.1.0, omega arith))
+    (λ c. searching_start _ _ _ _ c.requires.1.0 (found_as _ _ c.first_dead.ensures c.if-first_dead.false) c.if-w.false _ c.offer-c.ensures)
+    (λ c. omega (arith, c.requires.1.0.few))
     (λ c κs. search rules)
     (λ c κs.
-    let s = c.before.before.before.before.before.before.before.before.before.before.before.requires.1.0 in
-    (s, may_take _ s _ _ c.before.if3.true c.choice.ensures c.before.before.before.loop.invariant.next))
+    let s = c.requires.1.0 in
+    (s, may_take _ s _ _ c.loop-c-test.true c.choice.ensures c.loop-c.invariant.next))
     (λ c κs.
-    let start = c.before.before.before.before.before.before.before.before.before.before.before.before in
-    let h = start.requires.1 in
+    let h = c.requires.1 in
     let placed = c.place.ensures.0 in
-    (omega (arith, start.requires.0, less_left start.args.w h.0 _ _ placed), (c.place.ensures.1, (stands_n _ _ _ placed ∙ h.1.0, h.1.1))))
+    (omega (arith, c.requires.0, less_left c.args.w h.0 _ _ placed), (c.place.ensures.1, (stands_n _ _ _ placed ∙ h.1.0, h.1.1))))
     (λ c.
-    child_found _ _ _ _ c.before.before.before.before.before.before.before.before.before.before.before.before.before.before.requires.1.0 _ _ c.before.before.before.before.if3.true c.before.before.before.choice.ensures _ c.before.before.before.before.before.before.loop.invariant _ c.before.before.place.ensures.0 _ c.before.search.ensures c.if4.true)
+    child_found _ _ _ _ c.requires.1.0 _ _ c.loop-c-test.true c.choice.ensures _ c.loop-c.invariant _ c.place.ensures.0 _ c.search-child.ensures c.if-child.true)
     (λ c.
     record {
-      fits = sum_fits _ _ _ _ c.before.before.before.before.before.before.before.before.before.before.before.before.before.before.before.requires.1.0 _ _ c.before.before.before.before.before.if3.true c.before.before.before.before.choice.ensures _ c.before.before.before.before.before.before.before.loop.invariant _ c.before.before.before.place.ensures.0 _ c.before.before.search.ensures c.before.if4.false;
+      fits = sum_fits _ _ _ _ c.requires.1.0 _ _ c.loop-c-test.true c.choice.ensures _ c.loop-c.invariant _ c.place.ensures.0 _ c.search-child.ensures c.if-child.false;
     })
-    (λ c. omega (arith, c.before.before.before.before.before.before.before.before.before.before.before.before.before.before.before.requires.1.0.few))
-    (λ c κs. (c.before.before.before.before.before.before.before.before.before.before.before.before.before.before.before.requires.1.0, omega (arith, c.before.before.before.before.before.if3.true)))
-    (λ c. let after = offer_after _ _ _ _ c.offer2.ensures in omega (arith, after, c.before.before.before.before.before.before.if3.true))
+    (λ c. omega (arith, c.requires.1.0.few))
+    (λ c κs. (c.requires.1.0, omega (arith, c.loop-c-test.true)))
+    (λ c. let after = offer_after _ _ _ _ c.offer-c-in-loop-c.ensures in omega (arith, after, c.loop-c-test.true))
     (λ c.
-    child_none _ _ _ _ c.before.before.before.before.before.before.before.before.before.before.before.before.before.before.before.before.requires.1.0 _ _ c.before.before.before.before.before.before.if3.true c.before.before.before.before.before.choice.ensures _ c.before.before.before.before.before.before.before.before.loop.invariant _ c.before.before.before.before.place.ensures.0 _ c.before.before.before.search.ensures c.before.before.if4.false _ c.offer2.ensures)
-    (λ c. searched_all _ _ _ _ c.before.before.before.before.before.before.before.before.before.before.requires.1.0 _ c.if3.false _ c.before.before.loop.invariant)
+    child_none _ _ _ _ c.requires.1.0 _ _ c.loop-c-test.true c.choice.ensures _ c.loop-c.invariant _ c.place.ensures.0 _ c.search-child.ensures c.if-child.false _ c.offer-c-in-loop-c.ensures)
+    (λ c. searched_all _ _ _ _ c.requires.1.0 _ c.loop-c-test.false _ c.loop-c.invariant)

@@ -36,10 +36,10 @@ write_at t = and 3 kinds.ps (is 3 kinds.ps μ t) reads.Pre
 abbrev write_below : ℕ → In 3 kinds.ps
 write_below t = and 3 kinds.ps (falls 3 kinds.ps ◌<◌ μ t) reads.Pre
 
-abbrev invariant_loop : lts.invariant_loop
+abbrev invariant_loop : lts.invariant-loop-c
 invariant_loop w q f g out₀ start end₀ c₀ out end c = Writing w q f g out₀ end₀ c end out
 
-abbrev decreases_loop : lts.decreases_loop
+abbrev decreases_loop : lts.decreases-loop-c
 decreases_loop w q f g out₀ start end₀ c₀ out end c = 2 * w.n - c
 
 pub +write_tree_spec : {M : Type 1} → statement M
@@ -62,50 +62,46 @@ pub +write_tree_spec : {M : Type 1} → statement M
     invariant_loop
     decreases_loop
     (λ c κs.
-    let h = c.before.before.before.requires.1 in
+    let h = c.requires.1 in
     let framed = framed_both _ _ h.1.0 in
     (h.0, (framed.0.long, framed.1.long)))
-    (λ c. let small = subst Few (sym c.before.before.first_dead.ensures) (few_found _ _ _ _ _ c.before.before.before.before.before.before.requires.1.1.0) in omega (arith, small.first))
-    (λ c. let small = subst Few (sym c.before.before.before.first_dead.ensures) (few_found _ _ _ _ _ c.before.before.before.before.before.before.before.requires.1.1.0) in omega (arith, small.second))
+    (λ c. let small = subst Few (sym c.first_dead-pair.ensures) (few_found _ _ _ _ _ c.requires.1.1.0) in omega (arith, small.first))
+    (λ c. let small = subst Few (sym c.first_dead-pair.ensures) (few_found _ _ _ _ _ c.requires.1.1.0) in omega (arith, small.second))
     (λ c. search rules)
-    (λ c κs. let h = c.before.before.before.before.before.before.before.before.before.requires.1 in closing_room _ _ _ _ h.0 _ c.before.before.before.before.before.first_dead.ensures c.before.before.before.before.if1.true _ _ h.1.1)
-    (λ c. let h = c.before.before.before.before.before.before.before.before.before.before.before.before.requires.1 in let room = closing_room _ _ _ _ h.0 _ c.before.before.before.before.before.before.before.before.first_dead.ensures c.before.before.before.before.before.before.before.if1.true _ _ h.1.1 in omega (arith, room))
+    (λ c κs. let h = c.requires.1 in closing_room _ _ _ _ h.0 _ c.first_dead-pair.ensures c.if-pair.true _ _ h.1.1)
+    (λ c. let h = c.requires.1 in let room = closing_room _ _ _ _ h.0 _ c.first_dead-pair.ensures c.if-pair.true _ _ h.1.1 in omega (arith, room))
     (λ c. search rules)
     (λ c.
-    let closing = closing_node _ _ _ _ c.before.before.before.before.before.before.before.before.before.before.before.before.requires.1.0 _ c.before.before.before.before.before.before.before.before.first_dead.ensures c.before.before.before.before.before.before.before.if1.true in
-    (omega (arith, ap length closing), c.before.before.put.ensures ∙ ap (sets _ _) closing))
-    (λ c. let h = c.before.before.before.before.before.requires.1 in let room = mark_room _ _ _ _ h.0 (found_as _ _ c.before.first_dead.ensures c.if1.false) _ _ h.1.1 in omega (arith, room))
-    (λ c. let h = c.before.before.before.before.before.requires.1 in let room = mark_room _ _ _ _ h.0 (found_as _ _ c.before.first_dead.ensures c.if1.false) _ _ h.1.1 in omega (arith, room))
-    (λ c κs. (c.before.before.before.before.before.requires.1.0, omega arith))
-    (λ c. writing_start _ _ _ _ c.before.before.before.before.before.before.requires.1.0 _ _ _ c.offer.ensures)
-    (λ c. omega (arith, c.before.before.before.before.before.before.before.before.requires.1.0.few))
+    let closing = closing_node _ _ _ _ c.requires.1.0 _ c.first_dead-pair.ensures c.if-pair.true in
+    (omega (arith, ap length closing), c.put.ensures ∙ ap (sets _ _) closing))
+    (λ c. let h = c.requires.1 in let room = mark_room _ _ _ _ h.0 (found_as _ _ c.first_dead-pair.ensures c.if-pair.false) _ _ h.1.1 in omega (arith, room))
+    (λ c. let h = c.requires.1 in let room = mark_room _ _ _ _ h.0 (found_as _ _ c.first_dead-pair.ensures c.if-pair.false) _ _ h.1.1 in omega (arith, room))
+    (λ c κs. (c.requires.1.0, omega arith))
+    (λ c. writing_start _ _ _ _ c.requires.1.0 _ _ _ c.offer-c.ensures)
+    (λ c. omega (arith, c.requires.1.0.few))
     (λ c κs. search rules)
     (λ c κs.
-    let s = c.before.before.before.before.before.before.before.before.before.before.requires.1.0 in
-    (s, may_take _ s _ _ c.before.if2.true c.choice.ensures c.before.before.before.loop.invariant.next))
+    let s = c.requires.1.0 in
+    (s, may_take _ s _ _ c.loop-c-test.true c.choice.ensures c.loop-c.invariant.next))
     (λ c κs.
-    let loop = c.before.before.before.before.before in
-    let start = loop.before.before.before.before.before.before.before in
-    let a = start.args in
-    let h = start.requires.1 in
-    let placed = c.before.place.ensures.0 in
-    let room = split_room _ _ _ _ h.0 (found_as _ _ loop.before.before.before.first_dead.ensures loop.before.before.if1.false) a.out.now a.start h.1.1 in (
-      omega (arith, start.requires.0, less_left a.w h.0 _ _ placed),
-      (c.before.place.ensures.1, (h.1.0, child_room _ _ _ _ h.0 _ _ c.before.before.before.if2.true c.before.before.choice.ensures _ _ _ _ loop.loop.invariant _ placed room)),
+    let a = c.args in
+    let h = c.requires.1 in
+    let placed = c.place.ensures.0 in
+    let room = split_room _ _ _ _ h.0 (found_as _ _ c.first_dead-pair.ensures c.if-pair.false) a.out.now a.start h.1.1 in (
+      omega (arith, c.requires.0, less_left a.w h.0 _ _ placed),
+      (c.place.ensures.1, (h.1.0, child_room _ _ _ _ h.0 _ _ c.loop-c-test.true c.choice.ensures _ _ _ _ c.loop-c.invariant _ placed room)),
     ))
-    (λ c. omega (arith, c.before.before.before.before.before.before.before.before.before.before.before.before.before.before.before.requires.1.0.few))
-    (λ c κs. (c.before.before.before.before.before.before.before.before.before.before.before.before.before.before.before.requires.1.0, omega (arith, c.before.before.before.before.before.before.if2.true)))
-    (λ c. let after = offer_after _ _ _ _ c.offer2.ensures in omega (arith, after, c.before.before.before.before.before.before.before.if2.true))
+    (λ c. omega (arith, c.requires.1.0.few))
+    (λ c κs. (c.requires.1.0, omega (arith, c.loop-c-test.true)))
+    (λ c. let after = offer_after _ _ _ _ c.offer-c-in-loop-c.ensures in omega (arith, after, c.loop-c-test.true))
     (λ c.
-    let written = c.before.before.before.write_tree.ensures in
-    child_written _ _ _ _ c.before.before.before.before.before.before.before.before.before.before.before.before.before.before.before.before.requires.1.0 _ _ c.before.before.before.before.before.before.before.if2.true c.before.before.before.before.before.before.choice.ensures _ _ _ _ c.before.before.before.before.before.before.before.before.before.loop.invariant _ c.before.before.before.before.before.place.ensures.0 _ _ written.0 written.1 _ c.offer2.ensures)
-    (λ c. let a = c.before.before.before.before.before.before.before.before.before.args in c.before.before.loop.invariant.room ∙ length-set a.out.now a.start 0xFF)
+    let written = c.write_tree-end.ensures in
+    child_written _ _ _ _ c.requires.1.0 _ _ c.loop-c-test.true c.choice.ensures _ _ _ _ c.loop-c.invariant _ c.place.ensures.0 _ _ written.0 written.1 _ c.offer-c-in-loop-c.ensures)
+    (λ c. let a = c.args in c.loop-c.invariant.room ∙ length-set a.out.now a.start 0xFF)
     (λ c.
-    let loop = c.before.before in
-    let start = loop.before.before.before.before.before.before.before in
-    let a = start.args in
-    let s = start.requires.1.0 in
-    let None_found = found_as _ _ loop.before.before.before.first_dead.ensures loop.before.before.if1.false in (
-      end_written _ _ _ _ s None_found a.out.now a.start _ c.if2.false _ _ loop.loop.invariant,
-      all_written _ _ _ _ s None_found a.out.now a.start _ c.if2.false _ _ loop.loop.invariant,
+    let a = c.args in
+    let s = c.requires.1.0 in
+    let None_found = found_as _ _ c.first_dead-pair.ensures c.if-pair.false in (
+      end_written _ _ _ _ s None_found a.out.now a.start _ c.loop-c-test.false _ _ c.loop-c.invariant,
+      all_written _ _ _ _ s None_found a.out.now a.start _ c.loop-c-test.false _ _ c.loop-c.invariant,
     ))

@@ -21,45 +21,44 @@ use Rattle.matcher.proofs.find.Statement.{statement}
 use Rattle.matcher.proofs.find.Tie as tie
 
 -- after the first test both functions are accepted
-ok : (c : tie.Else1) → let a = c.before.before.before.before.before.before.args in Accepted a.f.now a.g.now
+ok : (c : tie.Else-both-ne0) → let a = c.args in Accepted a.f.now a.g.now
 ok c =
-    let known = c.before.before.before in
-    both_sound _ _ (λ i. (known.before.before.shared_slice_known.given i).fits) (λ i. (known.before.shared_slice_known2.given i).fits)
-    (ap (λ (x : Answer). x.code) (sym c.before.before.both.ensures) ∙ c.if1.false)
+    both_sound _ _ (λ i. (c.shared_slice_known-1.given i).fits) (λ i. (c.shared_slice_known-2-1.given i).fits)
+    (ap (λ (x : Answer). x.code) (sym c.both-both.ensures) ∙ c.if-both-ne0.false)
 
 -- what the two searches come to
-plain : (c : tie.After-search) → let a = c.before.before.before.before.before.before.before.before.before.args in Comes (inputs a.g.now) 0 a.f.now a.g.now [] c.search.result
+plain : (c : tie.After-search-plain) → let a = c.args in Comes (inputs a.g.now) 0 a.f.now a.g.now [] c.search-plain.result
 plain c =
-    let a = c.before.before.before.before.before.before.before.before.before.args in
-    c.search.ensures ∙ stands_as _ _ _ c.before.start.ensures.0 (λ n w. searched (first_from n 0 a.f.now a.g.now w) (length (node_bytes n 0 a.f.now a.g.now w)))
+    let a = c.args in
+    c.search-plain.ensures ∙ stands_as _ _ _ c.start.ensures.0 (λ n w. searched (first_from n 0 a.f.now a.g.now w) (length (node_bytes n 0 a.f.now a.g.now w)))
 
-turned : (c : tie.After-search2) → let a = c.before.before.before.before.before.before.before.before.before.before.before.before.args in Comes (inputs a.g.now) 1 a.f.now a.g.now [] c.search2.result
+turned : (c : tie.After-search-turned) → let a = c.args in Comes (inputs a.g.now) 1 a.f.now a.g.now [] c.search-turned.result
 turned c =
-    let a = c.before.before.before.before.before.before.before.before.before.before.before.before.args in
-    c.search2.ensures ∙ stands_as _ _ _ c.before.start2.ensures.0 (λ n w. searched (first_from n 1 a.f.now a.g.now w) (length (node_bytes n 1 a.f.now a.g.now w)))
+    let a = c.args in
+    c.search-turned.ensures ∙ stands_as _ _ _ c.start-2.ensures.0 (λ n w. searched (first_from n 1 a.f.now a.g.now w) (length (node_bytes n 1 a.f.now a.g.now w)))
 
-returns : tie.Need-returns
+returns : tie.Need-returns-then-both-ne0
 unfolding matching
 returns c =
-    let e = c.before.before.both.ensures in
-    delivered_refusal _ _ _ _ (e ∙ sym (or_else_stop _ _ (λ z. c.if1.true (ap (λ (x : Answer). x.code) e ∙ z)))) c.if1.true
+    let e = c.both-both.ensures in
+    delivered_refusal _ _ _ _ (e ∙ sym (or_else_stop _ _ (λ z. c.if-both-ne0.true (ap (λ (x : Answer). x.code) e ∙ z)))) c.if-both-ne0.true
 
-returns_2 : tie.Need-returns-2
+returns_2 : tie.Need-returns-then-plain
 unfolding ◌else◌
 returns_2 c =
-    match_delivered _ _ (ok c.before.before.before.before.before.before.before.before) _ _ _ 0 _ (plain c.before.before.before.before.before) c.before.before.before.before.if2.true (λ w e. phases _ _ (some w) e) c.before.before.write_match.ensures
+    match_delivered _ _ (ok c.before.before.before.before.before.before.before.before) _ _ _ 0 _ (plain c.before.before.before.before.before) c.if-plain.true (λ w e. phases _ _ (some w) e) c.write_match.ensures
 
-returns_3 : tie.Need-returns-3
+returns_3 : tie.Need-returns-then-turned
 unfolding ◌else◌
 returns_3 c =
-    let none₀ = (came_none _ _ _ (plain c.before.before.before.before.before.before.before.before) c.before.before.before.before.before.before.before.if2.false).0 in
-    match_delivered _ _ (ok c.before.before.before.before.before.before.before.before.before.before.before) _ _ _ 1 _ (turned c.before.before.before.before.before) c.before.before.before.before.if3.true
-    (λ w e. phases _ _ none none₀ ∙ ap (map _) e) c.before.before.write_match2.ensures
+    let none₀ = (came_none _ _ _ (plain c.before.before.before.before.before.before.before.before) c.if-plain.false).0 in
+    match_delivered _ _ (ok c.before.before.before.before.before.before.before.before.before.before.before) _ _ _ 1 _ (turned c.before.before.before.before.before) c.if-turned.true
+    (λ w e. phases _ _ none none₀ ∙ ap (map _) e) c.write_match-then-turned.ensures
 
-returns_4 : tie.Need-returns-4
+returns_4 : tie.Need-returns
 returns_4 c =
-    refusal_delivered _ _ _ _ (plain c.before.before.before.before.before.before.before.before.before.before) (turned c.before.before.before.before.before.before.before) c.before.before.before.before.before.before.before.before.before.if2.false c.before.before.before.before.before.before.if3.false
-    (ok c.before.before.before.before.before.before.before.before.before.before.before.before.before) _ _ _ c.before.before.write_refusal.ensures
+    refusal_delivered _ _ _ _ (plain c.before.before.before.before.before.before.before.before.before.before) (turned c.before.before.before.before.before.before.before) c.if-plain.false c.if-turned.false
+    (ok c.before.before.before.before.before.before.before.before.before.before.before.before.before) _ _ _ c.write_refusal.ensures
 
 pub find_spec : {M : Type 1} → statement M
 find_spec =
@@ -74,18 +73,18 @@ find_spec =
     (λ c. search rules)
     returns_2
     (λ c κs. few_inputs _ _ (ok c.before.before.before.before))
-    (λ c κs. let s = c.start2.ensures in (s.1, (stands_n _ _ _ s.0, ok c.before.before.before.before.before)))
+    (λ c κs. let s = c.start-2.ensures in (s.1, (stands_n _ _ _ s.0, ok c.before.before.before.before.before)))
     (λ c κs. few_inputs _ _ (ok c.before.before.before.before.before.before.before.before))
     (λ c. search rules)
     returns_3
-    (λ c. let short = measured_most _ _ _ _ (few_inputs _ _ (ok c.before.before.before.before.before.before.before.before)) _ (plain c.before.before.before.before.before) c.before.before.before.before.if2.false in omega (arith, short))
+    (λ c. let short = measured_most _ _ _ _ (few_inputs _ _ (ok c.before.before.before.before.before.before.before.before)) _ (plain c.before.before.before.before.before) c.if-plain.false in omega (arith, short))
     (λ c.
     let few = few_inputs _ _ (ok c.before.before.before.before.before.before.before.before.before) in
-    let short₀ = measured_most _ _ _ _ few _ (plain c.before.before.before.before.before.before) c.before.before.before.before.before.if2.false in
-    let short₁ = measured_most _ _ _ _ few _ (turned c.before.before.before) c.before.before.if3.false in
+    let short₀ = measured_most _ _ _ _ few _ (plain c.before.before.before.before.before.before) c.if-plain.false in
+    let short₁ = measured_most _ _ _ _ few _ (turned c.before.before.before) c.if-turned.false in
     omega (arith, short₀, short₁))
     (λ c κs.
-    let a = c.before.before.before.before.before.before.before.before.before.before.before.before.before.before.before.before.args in
-    (ok c.before.before.before.before.before.before.before.before.before.before, refusal_long a.f.now a.g.now _ _ (plain c.before.before.before.before.before.before.before) (turned c.before.before.before.before) c.before.before.before.before.before.before.if2.false c.before.before.before.if3.false))
+    let a = c.args in
+    (ok c.before.before.before.before.before.before.before.before.before.before, refusal_long a.f.now a.g.now _ _ (plain c.before.before.before.before.before.before.before) (turned c.before.before.before.before) c.if-plain.false c.if-turned.false))
     (λ c. search rules)
     returns_4)

@@ -32,33 +32,30 @@ record Stored (before : List ℕ) (needed from choices : ℕ) (out : List ℕ) (
   long : length out ≡ length before
   whole : sets out at (as_bytes (needed - at) rest) ≡ sets before from (as_bytes (needed - from) choices)
 
-abbrev invariant_loop : tie.invariant_loop
+abbrev invariant_loop : tie.invariant-loop-at
 invariant_loop n q choices out₀ needed at₀ rest₀ out at rest = Stored out₀ needed at₀ rest₀ out at rest
 
-abbrev decreases_loop : tie.decreases_loop
+abbrev decreases_loop : tie.decreases-loop-at
 decreases_loop n q choices out₀ needed at₀ rest₀ out at rest = needed - at
 
-loop_again : tie.Need-loop-preserved invariant_loop decreases_loop
+loop_again : tie.Need-loop-at-preserved invariant_loop decreases_loop
 loop_again c =
-    let k = c.before.loop in
+    let k = c.loop-at in
     record {
       within = omega arith;
       long = length-set k.out _ _ ∙ k.invariant.long;
-      whole = choice_stored _ _ _ _ c.loop-test.true ∙ k.invariant.whole;
+      whole = choice_stored _ _ _ _ c.loop-at-test.true ∙ k.invariant.whole;
     }
 
-returns_2 : tie.Need-returns-2 invariant_loop decreases_loop
+returns_2 : tie.Need-returns invariant_loop decreases_loop
 returns_2 c =
-    let end = c.before in
-    let k = end.before.loop in
-    let put = end.before.before.before.before in
-    let room = put.before.before.before in
-    let a = room.before.before.args in
+    let k = c.loop-at in
+    let a = c.args in
     let header : List ℕ = 0x4D ∷ 0x54 ∷ a.n ∷ a.q ∷ [] in
     let choices : k.out ≡ sets (sets a.out.now 0 header) 4 (as_bytes a.n a.choices) =
-    sym (choices_stored k.out _ k.at k.rest end.loop-test.false) ∙ k.invariant.whole
-    ∙ ap₂ (λ (l : List ℕ) (m : ℕ). sets l 4 (as_bytes m a.choices)) put.put.ensures (omega arith) in
-    delivered_whole _ 1 _ _ _ refl _ (omega (arith, room.if1.false)) c.accepted.ensures _ (choices ∙ sets_join a.out.now header (as_bytes a.n a.choices) 0)
+    sym (choices_stored k.out _ k.at k.rest c.loop-at-test.false) ∙ k.invariant.whole
+    ∙ ap₂ (λ (l : List ℕ) (m : ℕ). sets l 4 (as_bytes m a.choices)) c.put.ensures (omega arith) in
+    delivered_whole _ 1 _ _ _ refl _ (omega (arith, c.if-out-needed.false)) c.accepted.ensures _ (choices ∙ sets_join a.out.now header (as_bytes a.n a.choices) 0)
 
 pub write_match_spec : {M : Type 1} → statement M
 write_match_spec =
@@ -68,15 +65,15 @@ write_match_spec =
     decreases_loop
     (λ c. omega arith)
     (λ c κs. search rules)
-    (λ c. delivered_short _ 1 _ _ _ refl _ c.before.if1.true c.refused.ensures)
+    (λ c. delivered_short _ 1 _ _ _ refl _ c.if-out-needed.true c.refused.ensures)
     (λ c. search rules)
     (λ c κs. search rules)
     (λ c. record { within = omega arith; long = refl; whole = refl })
-    (λ c. omega (arith, and_mask c.before.loop.rest 8))
+    (λ c. omega (arith, and_mask c.loop-at.rest 8))
     (λ c. omega arith)
     (λ c. omega arith)
     (λ c. omega arith)
     loop_again
     (λ c κs. search rules)
-    (λ c. c.before.before.loop.invariant.long ∙ c.before.before.before.before.out.given)
+    (λ c. c.loop-at.invariant.long ∙ c.out-1.given)
     returns_2)

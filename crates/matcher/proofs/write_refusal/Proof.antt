@@ -17,33 +17,31 @@ use Rattle.matcher.proofs.write_refusal.Statement.{statement}
 use Rattle.matcher.proofs.write_refusal.Tie as tie
 
 -- there is room for the header and both trees
-room : (c : tie.Else1) → let a = c.before.before.before.before.args in
+room : (c : tie.Else-needed-out) → let a = c.args in
     3 + length (node_bytes (inputs a.g.now) 0 a.f.now a.g.now []) + length (node_bytes (inputs a.g.now) 1 a.f.now a.g.now []) ≤ length a.out.now
-room c = let start = c.before.before.before.before in let a = start.args in omega (arith, c.if1.false, start.requires.1, refusal_parts a.f.now a.g.now)
+room c = let a = c.args in omega (arith, c.if-needed-out.false, c.requires.1, refusal_parts a.f.now a.g.now)
 
-write_tree_requires : tie.Need-write-tree-requires
+write_tree_requires : tie.Need-write_tree-second-requires
 write_tree_requires c κs =
-    let start = c.before.before.before.before.before.before.before.before.before.before.before.before in
-    let a = start.args in
-    let empty = c.before.start in
+    let a = c.args in
+    let empty = c.start-start in
     let first = stands_as _ _ _ empty.ensures.0 (λ n w. node_bytes n 0 a.f.now a.g.now w) in
-    (empty.ensures.1, (start.requires.0, omega (arith, room c.before.before.before.before.before.before.before.before, ap length first, c.before.before.before.out.given)))
+    (empty.ensures.1, (c.requires.0, omega (arith, room c.before.before.before.before.before.before.before.before, ap length first, c.out-1.given)))
 
-write_tree_requires_2 : tie.Need-write-tree-requires-2
+write_tree_requires_2 : tie.Need-write_tree-end-requires
 write_tree_requires_2 c κs =
-    let start = c.before.before.before.before.before.before.before.before.before.before.before.before.before.before.before.before in
-    let a = start.args in
-    let empty = c.before.before.before.before.before.start in
+    let a = c.args in
+    let empty = c.start-start in
     let first = stands_as _ _ _ empty.ensures.0 (λ n w. node_bytes n 0 a.f.now a.g.now w) in
     let second = stands_as _ _ _ empty.ensures.0 (λ n w. node_bytes n 1 a.f.now a.g.now w) in
-    (empty.ensures.1, (start.requires.0, omega (arith, room c.before.before.before.before.before.before.before.before.before.before.before.before, ap length first, ap length second, c.before.before.before.write_tree.ensures.0, c.before.before.out2.given, c.before.before.before.before.before.before.before.out.given)))
+    (empty.ensures.1, (c.requires.0, omega (arith, room c.before.before.before.before.before.before.before.before.before.before.before.before, ap length first, ap length second, c.write_tree-second.ensures.0, c.out-2-1.given, c.out-1.given)))
 
-returns_2 : tie.Need-returns-2
+returns_2 : tie.Need-returns
 returns_2 c =
-    let a = c.before.before.before.before.before.before.before.before.before.before.before.before.before.before.before.before.before.before.before.before.args in
-    let tree₀ = c.before.before.before.before.before.before.before.write_tree.ensures in
-    let tree₁ = c.before.before.before.write_tree2.ensures in
-    let stored = refusal_stored a.f.now a.g.now _ c.before.before.before.before.before.before.before.before.before.start.ensures.0 a.out.now _ _ _ _ _ c.before.before.before.before.before.before.before.before.before.before.before.before.put.ensures tree₀.0 tree₀.1 tree₁.0 tree₁.1 in
+    let a = c.args in
+    let tree₀ = c.write_tree-second.ensures in
+    let tree₁ = c.write_tree-end.ensures in
+    let stored = refusal_stored a.f.now a.g.now _ c.start-start.ensures.0 a.out.now _ _ _ _ _ c.put.ensures tree₀.0 tree₀.1 tree₁.0 tree₁.1 in
     delivered_whole _ 2 _ _ _ refl _ (omega (arith, room c.before.before.before.before.before.before.before.before.before.before.before.before.before.before.before.before, refusal_parts a.f.now a.g.now)) (c.accepted.ensures ∙ ap (accepted 2) stored.0) _ stored.1
 
 pub write_refusal_spec : {M : Type 1} → statement M
@@ -52,12 +50,11 @@ write_refusal_spec =
     (tie.spec
     (λ c κs. search rules)
     (λ c.
-    let start = c.before.before.before.before.before in
-    delivered_short _ 2 _ _ _ refl _ (omega (arith, c.before.if1.true, start.requires.1)) (c.refused.ensures ∙ ap (refused 18 4) start.requires.1))
-    (λ c. let h = framed_both _ _ c.before.before.before.before.before.requires.0 in omega (arith, h.1.header.n_byte.there))
+    delivered_short _ 2 _ _ _ refl _ (omega (arith, c.if-needed-out.true, c.requires.1)) (c.refused.ensures ∙ ap (refused 18 4) c.requires.1))
+    (λ c. let h = framed_both _ _ c.requires.0 in omega (arith, h.1.header.n_byte.there))
     (λ c. search rules)
     (λ c κs. omega (arith, room c.before.before.before))
-    (λ c κs. few_inputs _ _ c.before.before.before.before.before.before.before.before.before.before.requires.0)
+    (λ c κs. few_inputs _ _ c.requires.0)
     write_tree_requires
     write_tree_requires_2
     (λ c κs. search rules)

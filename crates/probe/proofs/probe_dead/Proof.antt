@@ -19,46 +19,43 @@ use Rattle.probe.proofs.probe_dead.Statement.{statement}
 use Rattle.probe.proofs.probe_dead.Tie as tie
 
 -- after the first test both records are accepted
-fine : (c : tie.Else1) → let a = c.before.before.before.before.before.before.args in (both_read a.f.now a.g.now).code ≡ 0
-fine c = ap (λ (a : Answer). a.code) (sym c.before.before.both.ensures) ∙ c.if1.false
+fine : (c : tie.Else-both-ne0) → let a = c.args in (both_read a.f.now a.g.now).code ≡ 0
+fine c = ap (λ (a : Answer). a.code) (sym c.both.ensures) ∙ c.if-both-ne0.false
 
-ok : (c : tie.Else1) → let a = c.before.before.before.before.before.before.args in Accepted a.f.now a.g.now
+ok : (c : tie.Else-both-ne0) → let a = c.args in Accepted a.f.now a.g.now
 ok c =
-    let known = c.before.before.before in
-    both_sound _ _ (λ i. (known.before.before.shared_slice_known.given i).fits) (λ i. (known.before.shared_slice_known2.given i).fits) (fine c)
+    both_sound _ _ (λ i. (c.shared_slice_known-1.given i).fits) (λ i. (c.shared_slice_known-2-1.given i).fits) (fine c)
 
 -- after the second the choices are, and all are made
-chosen : (c : tie.Else2) → let a = c.before.before.before.before.before.before.before.before.before.before.args in (choices_fault (inputs a.g.now) [] a.choices.now 0).code ≡ 0
-chosen c = sound_as c.before.before.wire.ensures.fault c.if2.false
+chosen : (c : tie.Else-read-ne0) → let a = c.args in (choices_fault (inputs a.g.now) [] a.choices.now 0).code ≡ 0
+chosen c = sound_as c.wire-read.ensures.fault c.if-read-ne0.false
 
-made : (c : tie.Else2) → let a = c.before.before.before.before.before.before.before.before.before.before.args in
-    StandsFor c.before.before.wire.result.wiring (inputs a.g.now) a.choices.now
-made c = subst (StandsFor _ _) (choices_all _ [] _ (choices_sound _ [] _ 0 (chosen c))) c.before.before.wire.ensures.wiring
+made : (c : tie.Else-read-ne0) → let a = c.args in
+    StandsFor c.wire-read.result.wiring (inputs a.g.now) a.choices.now
+made c = subst (StandsFor _ _) (choices_all _ [] _ (choices_sound _ [] _ 0 (chosen c))) c.wire-read.ensures.wiring
 
 -- the pair that is found
-pair : (c : tie.After-first-dead) → let a = c.before.before.before.before.before.before.before.before.before.before.before.args in
+pair : (c : tie.After-first_dead) → let a = c.args in
     c.first_dead.result ≡ found (first_dead (inputs a.g.now) a.q a.f.now a.g.now a.choices.now)
 pair c =
-    let a = c.before.before.before.before.before.before.before.before.before.before.before.args in
-    let s = made c.before in
+    let a = c.args in
+    let s = made c.before.before in
     c.first_dead.ensures
     ∙ stands_as _ _ _ s (λ n w. found (first_dead n a.q a.f.now a.g.now w))
 
-returns : tie.Need-returns
+returns : tie.Need-returns-then-both-ne0
 unfolding dead_number
-returns c = simp (ne_eqb _ 0 (λ z. c.if1.true (ap (λ (a : Answer). a.code) c.before.before.both.ensures ∙ z))) refl
+returns c = simp (ne_eqb _ 0 (λ z. c.if-both-ne0.true (ap (λ (a : Answer). a.code) c.both.ensures ∙ z))) refl
 
-returns_2 : tie.Need-returns-2
+returns_2 : tie.Need-returns-then-read-ne0
 unfolding dead_number
 returns_2 c =
-    let read = c.before.before in
-    simp (eq-eqb _ 0 (fine read.before.before), ne_eqb _ 0 (bad_as read.wire.ensures.fault c.if2.true)) refl
+    simp (eq-eqb _ 0 (fine c.before.before.before.before), ne_eqb _ 0 (bad_as c.wire-read.ensures.fault c.if-read-ne0.true)) refl
 
-returns_3 : tie.Need-returns-3
+returns_3 : tie.Need-returns
 unfolding dead_number
 returns_3 c =
-    let after = c.before.before in
-    simp (eq-eqb _ 0 (fine after.before.before.before.before), eq-eqb _ 0 (chosen after)) (c.pair_number.ensures ∙ ap pair_number (pair c.before))
+    simp (eq-eqb _ 0 (fine c.before.before.before.before.before.before.before), eq-eqb _ 0 (chosen c.before.before.before)) (c.pair_number.ensures ∙ ap pair_number (pair c.before))
 
 pub probe_dead_spec : {M : Type 1} → statement M
 probe_dead_spec =
@@ -69,6 +66,6 @@ probe_dead_spec =
     (λ c. let h = framed_both _ _ (ok c.before) in h.1.header.n_byte.there)
     (λ c κs. (few_inputs _ _ (ok c.before), omega arith))
     returns_2
-    (λ c κs. let h = framed_both _ _ (ok c.before.before.before.before) in (stands_formed _ _ _ (made c), (h.0.long, h.1.long)))
-    (λ c κs. subst Few (sym (pair c)) (few_found _ _ _ _ _ (ok c.before.before.before.before.before)))
+    (λ c κs. let h = framed_both _ _ (ok c.before.before.before.before.before) in (stands_formed _ _ _ (made c.before), (h.0.long, h.1.long)))
+    (λ c κs. subst Few (sym (pair c)) (few_found _ _ _ _ _ (ok c.before.before.before.before.before.before)))
     returns_3)

@@ -10,10 +10,9 @@ use Rattle.probe.proofs.probe_fault.Tie as tie
 
 returns : tie.Need-returns
 returns c =
-    let left = c.before.before in
-    subst (λ (part : List ℕ). Leaves (length part) part left.before.before.before.before.before.before.args.out.now left.leave.new.0 left.leave.result)
-    left.before.at_fault.ensures.bytes
-    left.leave.ensures
+    subst (λ (part : List ℕ). Leaves (length part) part c.args.out.now c.leave.new.out c.leave.result)
+    c.at_fault.ensures.bytes
+    c.leave.ensures
 
 pub probe_fault_spec : {M : Type 1} → statement M
 probe_fault_spec = tie.close (tie.spec (λ c κs. search rules) (λ c κs. search rules) (λ c. search rules) returns)

@@ -9,12 +9,10 @@ use Rattle.probe.proofs.probe_read.Tie as tie
 
 returns : tie.Need-returns
 returns c =
-    let stored = c.before.before.before.before in
-    let read = stored.before.before.before.before.before in
-    let e = read.read.ensures in
+    let e = c.read-found.ensures in
     record {
       returned = c.packed_mod.ensures ∙ ap (λ (r : Reading). packed_mod r.answer) e;
-      slice = stored.store_three.ensures ∙ ap (λ (r : Reading). stored_if_room (counts_of r) read.before.before.before.args.numbers.now) e;
+      slice = c.store_three.ensures ∙ ap (λ (r : Reading). stored_if_room (counts_of r) c.args.numbers.now) e;
     }
 
 pub probe_read_spec : {M : Type 1} → statement M
