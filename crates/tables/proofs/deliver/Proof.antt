@@ -18,13 +18,12 @@ use Rattle.tables.proofs.deliver.Statement.{statement}
 use Rattle.tables.proofs.deliver.Tie as tie
 
 -- without a clash the room decides
-by_room : (c : tie.Else1)
-    → let a = c.before.before.before.before.before.before.args in
+by_room : (c : tie.Else-clash-ne0)
+    → let a = c.args in
     (room : ℕ) → record_reading (record_bytes a.n a.on.now a.off.now) room ≡ fits 3 room (5 + length a.on.now + length a.off.now)
 by_room c room =
-    let start = c.before.before.before.before.before.before in
-    let a = start.args in
-    clash_none a.n a.on.now a.off.now start.requires (λ i. (c.before.before.before.before.before.shared_slice_known.given i).fits) (λ i. (c.before.before.before.before.shared_slice_known2.given i).fits) _ c.before.before.clash_fault.ensures c.if1.false room
+    let a = c.args in
+    clash_none a.n a.on.now a.off.now c.requires (λ i. (c.shared_slice_known-1.given i).fits) (λ i. (c.shared_slice_known-2-1.given i).fits) _ c.clash_fault-clash.ensures c.if-clash-ne0.false room
     ∙ ap (fits 3 room) (record_long a.n a.on.now a.off.now)
 
 pub deliver_spec : {M : Type 1} → statement M
@@ -33,20 +32,19 @@ deliver_spec =
     (tie.spec
     (λ c κs. search rules)
     (λ c.
-    let a = c.before.before.before.before.before.before.before.args in
-    omega (arith, ap (λ (f : Fault). f.place) c.before.before.before.clash_fault.ensures, first_place (clash_code 8 a.off.now) (clash_pattern 8 a.off.now) a.on.now 0, c.before.before.before.before.before.before.before.requires.on_few))
+    let a = c.args in
+    omega (arith, ap (λ (f : Fault). f.place) c.clash_fault-clash.ensures, first_place (clash_code 8 a.off.now) (clash_pattern 8 a.off.now) a.on.now 0, c.requires.on_few))
     (λ c κs. search rules)
     (λ c.
-    let start = c.before.before.before.before.before.before.before.before in
-    let a = start.args in
+    let a = c.args in
     delivered_refusal _ _ _ _
-    (clash_refused a.n a.on.now a.off.now start.requires (λ i. (c.before.before.before.before.before.before.before.shared_slice_known.given i).fits) (λ i. (c.before.before.before.before.before.before.shared_slice_known2.given i).fits) _ c.before.before.before.before.clash_fault.ensures c.before.before.if1.true _ c.refused_by.ensures _)
-    (λ z. c.before.before.if1.true (ap (λ (x : Answer). x.code) (sym c.refused_by.ensures) ∙ z)))
-    (λ c. omega (arith, c.before.before.before.before.before.before.requires.on_few, c.before.before.before.before.before.before.requires.off_few))
-    (λ c. omega (arith, c.before.before.before.before.before.before.requires.on_few, c.before.before.before.before.before.before.requires.off_few))
+    (clash_refused a.n a.on.now a.off.now c.requires (λ i. (c.shared_slice_known-1.given i).fits) (λ i. (c.shared_slice_known-2-1.given i).fits) _ c.clash_fault-clash.ensures c.if-clash-ne0.true _ c.refused_by.ensures _)
+    (λ z. c.if-clash-ne0.true (ap (λ (x : Answer). x.code) (sym c.refused_by.ensures) ∙ z)))
+    (λ c. omega (arith, c.requires.on_few, c.requires.off_few))
+    (λ c. omega (arith, c.requires.on_few, c.requires.off_few))
     (λ c κs. search rules)
-    (λ c. delivered_short _ 3 _ _ _ (by_room c.before.before _) _ c.before.if2.true c.refused.ensures)
-    (λ c κs. (c.before.before.before.before.before.before.before.before.requires.on_few, (c.before.before.before.before.before.before.before.before.requires.off_few, c.before.if2.false)))
+    (λ c. delivered_short _ 3 _ _ _ (by_room c.before.before _) _ c.if-out-long.true c.refused.ensures)
+    (λ c κs. (c.requires.on_few, (c.requires.off_few, c.if-out-long.false)))
     (λ c κs. search rules)
     (λ c. search rules)
-    (λ c. delivered_whole _ 3 _ _ _ (by_room c.before.before.before.before.before.before _) _ c.before.before.before.before.before.if2.false c.accepted.ensures _ c.before.before.before.store.ensures))
+    (λ c. delivered_whole _ 3 _ _ _ (by_room c.before.before.before.before.before.before _) _ c.if-out-long.false c.accepted.ensures _ c.store.ensures))

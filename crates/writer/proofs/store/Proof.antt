@@ -13,14 +13,11 @@ use Rattle.writer.proofs.store.Tie as tie
 returns : tie.Need-returns
 unfolding record_bytes
 returns c =
-    let third = c.before.before in
-    let second = third.before.before.before.before in
-    let first = second.before.before.before.before in
-    let a = first.before.before.before.before.before.before.args in
+    let a = c.args in
     let on = a.on.now in
     let off = a.off.now in
-    third.put3.ensures
-    ∙ ap (λ (l : List ℕ). sets l (5 + length on) off) (second.put2.ensures ∙ ap (λ (l : List ℕ). sets l 5 on) first.put.ensures)
+    c.put-3.ensures
+    ∙ ap (λ (l : List ℕ). sets l (5 + length on) off) (c.put-2.ensures ∙ ap (λ (l : List ℕ). sets l 5 on) c.put.ensures)
     ∙ three_stored a.out.now (0x46 ∷ 0x4E ∷ a.n ∷ length on / 2 ∷ length off / 2 ∷ []) on off 5 refl
 
 pub store_spec : {M : Type 1} → statement M

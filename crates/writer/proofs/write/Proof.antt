@@ -17,45 +17,43 @@ abbrev code : Answer → ℕ
 code a = a.code
 
 -- after the first test the sizes are right
-sized : (c : tie.Else1) → let a = c.before.before.before.before.before.before.args in (sizes a.n a.on.now a.off.now).code ≡ 0
-sized c = ap code (sym c.before.before.check_sizes.ensures) ∙ c.if1.false
+sized : (c : tie.Else-sized-ne0) → let a = c.args in (sizes a.n a.on.now a.off.now).code ≡ 0
+sized c = ap code (sym c.check_sizes-sized.ensures) ∙ c.if-sized-ne0.false
 
-right : (c : tie.Else1) → let a = c.before.before.before.before.before.before.args in Sized a.n a.on.now a.off.now
+right : (c : tie.Else-sized-ne0) → let a = c.args in Sized a.n a.on.now a.off.now
 right c = sizes_sound _ _ _ (sized c)
 
 -- after the second the room decides
-by_room : (c : tie.Else2)
-    → let a = c.before.before.before.before.before.before.before.before.before.args in
+by_room : (c : tie.Else-checked-ne0)
+    → let a = c.args in
     let needed = 5 + length a.on.now + length a.off.now in
     (room : ℕ) → writing a.n a.on.now a.off.now room ≡ fits 3 room needed
 unfolding writing
 by_room c room =
-    let a = c.before.before.before.before.before.before.before.before.before.args in
+    let a = c.args in
     or_else_next _ _ (sized c.before.before.before)
-    ∙ or_else_next _ _ (ap code (sym c.before.before.check_cubes.ensures) ∙ c.if2.false)
+    ∙ or_else_next _ _ (ap code (sym c.check_cubes-checked.ensures) ∙ c.if-checked-ne0.false)
     ∙ ap (fits 3 room) (record_long a.n a.on.now a.off.now)
 
-returns : tie.Need-returns
+returns : tie.Need-returns-then-sized-ne0
 unfolding writing
 returns c =
-    let e = c.before.before.check_sizes.ensures in
-    delivered_refusal _ _ _ _ (e ∙ sym (or_else_stop _ _ (λ z. c.if1.true (ap code e ∙ z)))) c.if1.true
+    let e = c.check_sizes-sized.ensures in
+    delivered_refusal _ _ _ _ (e ∙ sym (or_else_stop _ _ (λ z. c.if-sized-ne0.true (ap code e ∙ z)))) c.if-sized-ne0.true
 
-returns_2 : tie.Need-returns-2
+returns_2 : tie.Need-returns-then-checked-ne0
 unfolding writing
 returns_2 c =
-    let e = c.before.before.check_cubes.ensures in
+    let e = c.check_cubes-checked.ensures in
     delivered_refusal _ _ _ _
-    (e ∙ sym (or_else_next _ _ (sized c.before.before.before) ∙ or_else_stop _ _ (λ z. c.if2.true (ap code e ∙ z)))) c.if2.true
+    (e ∙ sym (or_else_next _ _ (sized c.before.before.before) ∙ or_else_stop _ _ (λ z. c.if-checked-ne0.true (ap code e ∙ z)))) c.if-checked-ne0.true
 
-returns_3 : tie.Need-returns-3
-returns_3 c = delivered_short _ 3 _ _ _ (by_room c.before.before _) _ c.before.if3.true c.refused.ensures
+returns_3 : tie.Need-returns-then-out-needed
+returns_3 c = delivered_short _ 3 _ _ _ (by_room c.before.before _) _ c.if-out-needed.true c.refused.ensures
 
-returns_4 : tie.Need-returns-4
+returns_4 : tie.Need-returns
 returns_4 c =
-    let called = c.before.before.before in
-    let room = called.before.before in
-    delivered_whole _ 3 _ _ _ (by_room room.before _) _ room.if3.false c.accepted.ensures _ called.store.ensures
+    delivered_whole _ 3 _ _ _ (by_room c.before.before.before.before.before.before _) _ c.if-out-needed.false c.accepted.ensures _ c.store.ensures
 
 pub write_spec : {M : Type 1} → statement M
 write_spec =
