@@ -8,7 +8,7 @@ mod checks;
 mod functions;
 mod kinds;
 mod matches;
-mod wirings;
+mod single_wirings;
 
 use functions::{CONJ, CONST, DISJ, F_2_1, F_3_2, G_2_1, G_3_2, ODD, OPEN, WIRE};
 use std::io;
@@ -132,9 +132,9 @@ fn at_fault<W: Write>(to: &mut W) -> io::Result<()> {
 
 // What the paper says of its examples, and straight wirings, which do not agree.
 fn examples<W: Write>(to: &mut W) -> io::Result<()> {
-    wirings::one(to, b"Example 2.1", &F_2_1, &G_2_1, b"\x01\x02\x10")?;
-    wirings::one(to, b"Example 2.1", &F_2_1, &G_2_1, b"\x00\x01\x02")?;
-    wirings::plain(to, b"Example 3.2", &F_3_2, &G_3_2)
+    single_wirings::one(to, b"Example 2.1", &F_2_1, &G_2_1, b"\x01\x02\x10")?;
+    single_wirings::one(to, b"Example 2.1", &F_2_1, &G_2_1, b"\x00\x01\x02")?;
+    single_wirings::plain(to, b"Example 3.2", &F_3_2, &G_3_2)
 }
 
 // Both functions before the claim, and g's own faults even where n differs.
