@@ -3,7 +3,11 @@
 // error, and the exit status is 1 then.
 #![tactic(auto)]
 
-ghost use Rattle.std.specs.Prelude.{◌≡◌, length};
+ghost use Rattle.std.specs.Prelude.{◌≡◌, IfSome, IfErr, OnOk, length};
+ghost use Rattle.std.specs.Io.KnownBytes.{Appends, Keeps};
+ghost use Rattle.records.specs.Records.{Bytes};
+ghost use Rattle.lines.specs.Lines.{check_lines};
+ghost use Rattle.input.specs.Failing.{IsInput};
 
 use input::Failure;
 use std::io::{Read, Write};
@@ -18,7 +22,10 @@ fn records_and_claim() -> [u8; 51203]
 }
 
 // Reads f, g and a claim, and writes the answer.
-fn answer<R: Read, W: Write>(reader: &mut R, out: &mut W) -> Result<(), Failure> {
+fn answer<R: Read, W: Write>(reader: &mut R, out: &mut W) -> Result<(), Failure>
+    ensures printed { OnOk result (IfSome (R.remaining reader.old) (λ input. Bytes input → Appends (W.contents out.old) (W.contents out.new) (check_lines input))) }
+    ensures silent { IfErr result (λ e. IsInput e → Keeps (W.contents out.old) (W.contents out.new)) }
+{
     let mut input = records_and_claim();
     let got = match input::read_whole(reader, &mut input) {
         Ok(got) => got,

@@ -3,7 +3,11 @@
 // error, and the exit status is 1 then.
 #![tactic(auto)]
 
-ghost use Rattle.std.specs.Prelude.{◌≡◌, length};
+ghost use Rattle.std.specs.Prelude.{◌≡◌, IfSome, IfErr, OnOk, length};
+ghost use Rattle.std.specs.Io.KnownBytes.{Appends, Keeps};
+ghost use Rattle.records.specs.Records.{Bytes};
+ghost use Rattle.lines.specs.Lines.{match_lines};
+ghost use Rattle.input.specs.Failing.{IsInput};
 
 use input::Failure;
 use std::io::{Read, Write};
@@ -24,7 +28,10 @@ fn two_lines() -> [u8; 12325]
 }
 
 // Reads f and g, and writes the answer and the claim.
-fn answer<R: Read, W: Write>(reader: &mut R, out: &mut W) -> Result<(), Failure> {
+fn answer<R: Read, W: Write>(reader: &mut R, out: &mut W) -> Result<(), Failure>
+    ensures printed { OnOk result (IfSome (R.remaining reader.old) (λ input. Bytes input → Appends (W.contents out.old) (W.contents out.new) (match_lines input))) }
+    ensures silent { IfErr result (λ e. IsInput e → Keeps (W.contents out.old) (W.contents out.new)) }
+{
     let mut input = two_records();
     let got = match input::read_whole(reader, &mut input) {
         Ok(got) => got,
