@@ -6,19 +6,21 @@
 ghost use Rattle.std.specs.Prelude.{◌≡◌, ◌≤◌, length};
 
 use answers::Answer;
+use std::io;
+use std::io::Write;
 
 // A case's line.
-fn line(name: &[u8], answer: Answer, out: &[u8]) {
-    show::answer(name, answer);
-    show::hex(out);
-    show::text(b"\n");
+fn line<W: Write>(to: &mut W, name: &[u8], answer: Answer, out: &[u8]) -> io::Result<()> {
+    show::answer(to, name, answer)?;
+    show::hex(to, out)?;
+    show::text(to, b"\n")
 }
 
 // Reads a text into 13 bytes.
-fn reads(name: &[u8], text: &[u8]) {
+fn reads<W: Write>(to: &mut W, name: &[u8], text: &[u8]) -> io::Result<()> {
     let mut out = [0xAAu8; 13];
     let answer = tables::read_table(text, &mut out);
-    line(name, answer, &out);
+    line(to, name, answer, &out)
 }
 
 // The next @, or the input's end.
@@ -38,18 +40,19 @@ fn text_end(input: &[u8], at: usize) -> usize
 }
 
 // Case by case.
-fn each(input: &[u8]) {
+fn each<W: Write>(to: &mut W, input: &[u8]) -> io::Result<()> {
     let mut at = 0;
     while at < input.len() {
         let head = words::line_end(input, at);
         if input.len() <= head {
-            return;
+            return Ok(());
         }
         let text = head + 1;
         let end = text_end(input, text);
-        reads(&input[at..head], &input[text..end]);
+        reads(to, &input[at..head], &input[text..end])?;
         at = end + 2;
     }
+    Ok(())
 }
 
 // Room for the input.
@@ -60,48 +63,50 @@ fn all_cases() -> [u8; 8192]
 }
 
 // Writes the table of a record into a lent buffer.
-fn writes(name: &[u8], record: &[u8], out: &mut [u8]) {
+fn writes<W: Write>(to: &mut W, name: &[u8], record: &[u8], out: &mut [u8]) -> io::Result<()> {
     let answer = tables::write_table(record, out);
-    line(name, answer, out);
+    line(to, name, answer, out)
 }
 
 // Lends `room` bytes.
-fn into(name: &[u8], record: &[u8], room: usize)
+fn into<W: Write>(to: &mut W, name: &[u8], record: &[u8], room: usize) -> io::Result<()>
     requires { room ≤ 44 }
 {
     let mut out = [0xAAu8; 44];
-    writes(name, record, &mut out[..room]);
+    writes(to, name, record, &mut out[..room])
 }
 
 // Records that are written.
-fn written() {
+fn written<W: Write>(to: &mut W) -> io::Result<()> {
     let conj = b"\x46\x4E\x02\x01\x02\x03\x00\x00\x01\x00\x02";
-    into(b"Export of Conj", conj, 44);
-    into(b"Export of Conj, just enough room", conj, 42);
-    into(b"Export of Conj, a byte too few", conj, 41);
-    into(b"Export of Open", b"\x46\x4E\x01\x00\x00", 27);
+    into(to, b"Export of Conj", conj, 44)?;
+    into(to, b"Export of Conj, just enough room", conj, 42)?;
+    into(to, b"Export of Conj, a byte too few", conj, 41)?;
+    into(to, b"Export of Open", b"\x46\x4E\x01\x00\x00", 27)?;
     into(
+        to,
         b"Export of eight inputs",
         b"\x46\x4E\x08\x01\x00\x81\x18",
         40,
-    );
+    )
 }
 
 // Records that are refused, though there is no room either.
-fn refused() {
-    into(b"Export of another mark", b"\x46\x50\x02\x00\x00", 3);
+fn refused<W: Write>(to: &mut W) -> io::Result<()> {
+    into(to, b"Export of another mark", b"\x46\x50\x02\x00\x00", 3)?;
     into(
+        to,
         b"Export of a shared pattern",
         b"\x46\x4E\x02\x02\x01\x03\x00\x00\x03\x00\x01",
         0,
-    );
+    )
 }
 
-fn main() {
+fn main(rt: HostRuntime) -> io::Result<()> {
     let mut input = all_cases();
-    let read = input::read_whole(0, &mut input);
-    let got = read.len;
-    each(&input[..got]);
-    written();
-    refused();
+    let got = input::read_whole(&mut rt.stdin(), &mut input)?;
+    let mut to = rt.stdout();
+    each(&mut to, &input[..got])?;
+    written(&mut to)?;
+    refused(&mut to)
 }

@@ -1,0 +1,22 @@
+-- What was read are the first bytes that the reader had, as many as there was room for.
+use Rattle.std.proofs.Common.{◌≡◌, ℕ, ◌<◌, ◌≤◌, List, [], ◌++◌, IfSome, None, Some, inl, inr, sym, ap, ◌∙◌, arith, length, take, append-nil, length-take-le, take_all}
+use Rattle.std.proofs.Math.Nat.{eq-or-lt_of_le}
+use Rattle.std.proofs.Math.Seq.{take-append_seam}
+use Rattle.std.specs.declared.option.Option.{Option}
+use Rattle.std.specs.Io.KnownBytes.{Consumes, IsAtEnd}
+
+-- a front that fills the room, or behind which there is nothing
+front_is : (room n : ℕ) (front rest : List ℕ) → length front ≡ n → n ≤ room → (n < room → rest ≡ []) → front ≡ take room (front ++ rest)
+front_is room n front rest long within end = elim (eq-or-lt_of_le within) [
+  | inl full ↦ sym (ap (λ (k : ℕ). take k (front ++ rest)) (sym full ∙ sym long) ∙ take-append_seam front rest)
+  | inr less ↦
+      let all : front ++ rest ≡ front = ap (λ l. front ++ l) (end less) ∙ append-nil front in
+      sym (ap (take room) all ∙ take_all room front (omega (arith, long, less)))
+]
+
+pub read_first : (old new : Option (List ℕ)) (buf : List ℕ) (n : ℕ) → n ≤ length buf → Consumes old new (take n buf) → (n < length buf → IsAtEnd new)
+    → IfSome old (λ xs. take n buf ≡ take (length buf) xs)
+read_first None new buf n within read end = tt
+read_first (Some xs) None buf n within read end = absurd read
+read_first (Some xs) (Some ys) buf n within read end =
+    front_is (length buf) n (take n buf) ys (length-take-le n buf within) within end ∙ ap (take (length buf)) (sym read)
