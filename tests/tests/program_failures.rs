@@ -19,7 +19,7 @@ const PROGRAMS: [&str; 2] = ["match_pair", "check_claim"];
 fn program(name: &str) -> PathBuf {
     let folder = env::var_os("ZAP_PROGRAMS").unwrap_or("../target/bin".into());
     let file = Path::new(env!("CARGO_MANIFEST_DIR")).join(folder).join(name);
-    assert!(file.exists(), "{} is missing: rt check {name}", file.display());
+    assert!(file.exists(), "{} is missing: tools/programs", file.display());
     file
 }
 
