@@ -1,6 +1,6 @@
 -- What code 14 names, and that no other code of a claim names a pattern. The idea: of all the faults that reading a claim can give,
 -- the last of a match claim alone has a pattern; so what holds of a fault without one, and of that last, holds of the claim's.
-use Prim.Native.Nat.{ℕ, zero, suc, ◌+◌, ◌-◌, ◌^◌}
+use Prim.Native.Nat.{ℕ, zero, suc, ◌+◌, ◌^◌}
 use mathlib.Core.Path.{◌≡◌, refl}
 use mathlib.Core.Bool.{Bool, true, false, cond}
 use mathlib.Core.List.{List, [], ◌∷◌}

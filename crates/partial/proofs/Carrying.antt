@@ -1,27 +1,26 @@
 -- A cube carried over, by masks. The idea: at each input of g the three masks say what the definitions say of literals, so
 -- that two tests of masks decide whether a pair is separated and whether it is dead.
-use Prim.Native.Nat.{ℕ, ◌+◌, ◌*◌, ◌/◌, ◌%◌, ◌^◌, ◌≤◌, ◌<◌}
-use mathlib.Core.Path.{◌≡◌, refl, sym, ap, ap₂, ◌∙◌}
-use mathlib.Core.Bool.{Bool, true, false, cond, not, ◌&&◌, ◌||◌, xor, and_assoc, and_comm}
+use Prim.Native.Nat.{ℕ, ◌^◌, ◌≤◌, ◌<◌}
+use mathlib.Core.Path.{◌≡◌, sym, ap, ap₂, ◌∙◌}
+use mathlib.Core.Bool.{Bool, true, false, cond, not, ◌&&◌, ◌||◌, and_assoc}
 use mathlib.Core.List.{List, []}
-use native.Mathlib.Nat.{le_trans, lt_of_le_of_lt, lt_of_lt_of_le}
+use native.Mathlib.Nat.{lt_of_le_of_lt, lt_of_lt_of_le}
 use native.Mathlib.Omega.{arith}
-use borrow.Author.Tests.{lt-ltb, eq-eqb, ne_eqb}
+use borrow.Author.Tests.{eq-eqb, ne_eqb}
 use lib.Bits.{bit_and, bit_or, bit_xor, xor_comm, and_le_r, or_lt}
 use lib.Dec.{ltb, eqb}
-use lib.Pow.{pow_mono}
 use lib.ListN.{length, get_or}
 use Rattle.bits.specs.Bits.{has, mask, any}
 use Rattle.bits.proofs.Below.{any_or, any_same, any_under, any_never}
-use Rattle.bits.proofs.Bit.{has_or, has_and, has_xor, has_zero, any_bit}
-use Rattle.bits.proofs.Mask.{mask_lt, mask_has, mask_at, mask_same}
+use Rattle.bits.proofs.Bit.{has_or, has_and, has_zero, any_bit}
+use Rattle.bits.proofs.Mask.{mask_same}
 use Rattle.cubes.specs.Cubes.{cube_names}
 use Rattle.rules.specs.Rules.{follows}
-use Rattle.wirings.specs.Wirings.{input_of, inverted, straight}
-use Rattle.wirings.specs.Pairs.{asks_one, asks_zero, carried_pos, carried_neg, separates, unplaced, unused, unplaced_literal, unused_literal, dead}
+use Rattle.wirings.specs.Wirings.{input_of, straight}
+use Rattle.wirings.specs.Pairs.{asks_one, asks_zero, carried_pos, carried_neg, separates, unused, unplaced_literal, unused_literal, dead}
 use Rattle.partial.specs.declared.Carried.{Carried}
 use Rattle.partial.specs.declared.Wiring.{Wiring}
-use Rattle.partial.specs.Partial.{inverts, serves, prefix, Formed, led, carried, opposes, clears}
+use Rattle.partial.specs.Partial.{prefix, Formed, led, carried, opposes, clears}
 use Rattle.partial.proofs.Standing.{stands_free}
 use Rattle.partial.proofs.Matrix.{in_mask, within, served, waits, asking, asked}
 use Rattle.wirings.proofs.Dead.{not_either}

@@ -5,21 +5,21 @@ use mathlib.Core.Path.{◌≡◌, refl, sym, ap, ap₂, ◌∙◌}
 use mathlib.Core.Bool.{Bool, true, false, cond, not, ◌&&◌, ◌||◌, xor, and_assoc, and_comm, and-true, and-false, or-true}
 use mathlib.Core.List.{List}
 use mathlib.Core.Logic.{◌⊎◌, inl, inr}
-use native.Mathlib.Nat.{le_trans, lt_of_le_of_lt, lt_of_lt_of_le, zero-mul, one-mul, add-mul, mul_assoc}
+use native.Mathlib.Nat.{le_trans, lt_of_le_of_lt, lt_of_lt_of_le, zero-mul, add-mul, mul_assoc}
 use native.Mathlib.Omega.{arith}
 use borrow.Author.Tests.{ltb-true, lt-ltb, eqb-true, eq-eqb, ne_eqb}
 use lib.Bits.{bit_and, bit_or, bit_xor, xor_comm, and_le_r, and_le_l}
 use lib.Dec.{ltb, eqb}
 use lib.Pow.{pow_mono}
 use lib.ListN.{length, get_or}
-use Rattle.bits.specs.Bits.{bit, has, mask, any}
+use Rattle.bits.specs.Bits.{has, mask, any}
 use Rattle.bits.proofs.Tests.{both, both_left, both_right, same_test}
 use Rattle.bits.proofs.Below.{any_at, any_if, any_add, any_never, any_same, any_under}
-use Rattle.bits.proofs.Bit.{has_or, has_and, has_xor, has_zero, has_shr, bit_mod, any_bit}
+use Rattle.bits.proofs.Bit.{has_or, has_and, has_xor, has_shr, bit_mod, any_bit}
 use Rattle.bits.proofs.Mask.{mask_lt, mask_has, mask_at}
 use Rattle.cubes.specs.Cubes.{cube_names}
 use Rattle.wirings.specs.Wirings.{input_of, inverted}
-use Rattle.wirings.specs.Pairs.{asks_one, asks_zero, opposed, separates, unplaced, unused, unplaced_literal, unused_literal, dead}
+use Rattle.wirings.specs.Pairs.{asks_one, opposed, separates, unplaced, unused, unplaced_literal, unused_literal, dead}
 use Rattle.wirings.proofs.Choices.{placed_input}
 use Rattle.partial.specs.declared.Wiring.{Wiring}
 use Rattle.partial.specs.Partial.{inverts, serves, prefix, Formed}

@@ -12,7 +12,7 @@ use lib.ListN.{length, length-append, drop_of_length-le}
 use Rattle.bits.proofs.Tests.{decide, below_or_not, cond_cases}
 use Rattle.rules.specs.Lists.{passed_over}
 use Rattle.rules.specs.Rules.{◌adding◌}
-use Rattle.wirings.specs.Wirings.{input_of, inverted, choices_from, choice_at, rank, is_choice, straight, free_choice}
+use Rattle.wirings.specs.Wirings.{input_of, inverted, choices_from, choice_at, rank, is_choice, free_choice}
 use Rattle.wirings.proofs.Choices.{choice_input, choices_at, choices_length, choice_at_is, offered, offered_skip, offered_take, offered_end, free_number}
 use Rattle.partial.specs.declared.Wiring.{Wiring}
 use Rattle.partial.specs.Partial.{StandsFor, Formed, prefix, may_place, offer_from}

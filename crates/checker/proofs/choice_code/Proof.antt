@@ -2,7 +2,6 @@
 use mathlib.Core.Path.{◌≡◌, refl, sym, ap, ◌∙◌}
 use mathlib.Core.Bool.{Bool, true, ◌&&◌}
 use borrow.Author.Rules.{rules}
-use borrow.Author.Tests.{not-true, not-false}
 use Rattle.wirings.specs.Wirings.{is_choice, free_choice}
 use Rattle.partial.specs.Partial.{prefix}
 use Rattle.checker.specs.Checking.{choice_code}

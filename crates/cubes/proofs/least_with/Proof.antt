@@ -2,7 +2,6 @@
 use mathlib.Core.Path.{sym}
 use native.Mathlib.Omega.{arith}
 use borrow.Author.Rules.{rules}
-use borrow.Author.Tests.{not-true}
 use Rattle.cubes.specs.Values.{pattern_of}
 use Rattle.cubes.proofs.Lists.{number_found, least_none}
 use Rattle.cubes.proofs.least_with.Statement.{statement}

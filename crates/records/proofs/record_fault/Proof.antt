@@ -6,7 +6,7 @@ use borrow.Author.Rules.{rules}
 use native.Mathlib.Omega.{arith}
 use lib.ListN.{take, drop}
 use Rattle.answers.proofs.Faults.{sound_as, bad_as}
-use Rattle.records.specs.Records.{off_at, off_list, header_fault, cubes_fault, clash_fault, clash_code, clash_pattern, first_fault}
+use Rattle.records.specs.Records.{off_at, header_fault, cubes_fault, clash_code, clash_pattern, first_fault}
 use Rattle.records.proofs.Frame.{Framed, header_sound, ends_at_header, ends_at_cubes, ends_at_clash}
 use Rattle.records.proofs.Cubes.{front_long, clash_by_code}
 use Rattle.records.proofs.record_fault.Statement.{statement}
