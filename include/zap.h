@@ -11,7 +11,8 @@
  *
  * The calls keep nothing between them, so any number may run at once, in any threads.
  * They ask for no memory but stack: zap_match takes up to 3.2 kB of it, zap_check
- * 2.3 kB, the others less than 0.5 kB (measured, x86-64).
+ * 2.3 kB, the others less than 0.5 kB (measured, x86-64, as an earlier toolchain
+ * built them).
  */
 #ifndef ZAP_H
 #define ZAP_H
