@@ -3,7 +3,6 @@ pub mod Disagreeing
 pub mod Named
 pub mod Closings
 pub mod Children
-pub mod Splits
 pub mod Exact
 pub mod Places
 pub mod Settled

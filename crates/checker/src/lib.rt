@@ -187,57 +187,45 @@ fn closing(w: Wiring, q: u8, f: &[u8], g: &[u8], claim: &[u8], node: usize) -> F
     }
 }
 
-// The tree at a place: a closing, or a split into the trees of the free choices for the next input. Its nodes are read in their
-// order without recursion, so that no tree takes more stack than a closing: `here` has the choices on the way to the node at
-// `next`. A split places its first choice. After a closing the last choice gives way to the next one, or, where there is none, is
-// taken back, and so is the one before it.
+// The tree at a place: a closing, or a split into the trees of the free choices for the next input, each read by this function
+// with one input less to be placed.
 fn tree(w: Wiring, q: u8, f: &[u8], g: &[u8], claim: &[u8], start: usize) -> Fault
     requires formed { Formed w }
     requires f_value { record_end f.now ≡ length f.now }
     requires g_value { record_end g.now ≡ length g.now }
     ensures { result ≡ tree_fault w.n q f.now g.now claim.now (prefix w) start }
 {
-    let mut here = w;
-    let mut next = start;
-    'nodes: loop {
-        if claim.len() <= next {
-            return Fault {
-                code: 1,
-                place: claim.len(),
-                pattern: 0,
-            };
-        }
-        if claim[next] == 0xFF {
-            if here.depth == here.n {
-                return Fault {
-                    code: 16,
-                    place: next,
-                    pattern: 0,
-                };
-            }
-            here = here.place(partial::choice(here.offer(0)));
-            next += 1;
-            continue;
-        }
-        let read = closing(here, q, f, g, claim, next);
-        if read.code != 0 {
-            return read;
-        }
-        next = read.place;
-        while here.depth != w.depth {
-            let last = partial::rank(here.last());
-            here = here.back();
-            let c = here.offer(last + 1);
-            if c < 2 * here.n {
-                here = here.place(partial::choice(c));
-                continue 'nodes;
-            }
-        }
+    if claim.len() <= start {
         return Fault {
-            code: 0,
-            place: next,
+            code: 1,
+            place: claim.len(),
             pattern: 0,
         };
+    }
+    if claim[start] != 0xFF {
+        return closing(w, q, f, g, claim, start);
+    }
+    if w.depth == w.n {
+        return Fault {
+            code: 16,
+            place: start,
+            pattern: 0,
+        };
+    }
+    let mut next = start + 1;
+    let mut c = w.offer(0);
+    while c < 2 * w.n {
+        let child = tree(w.place(partial::choice(c)), q, f, g, claim, next);
+        if child.code != 0 {
+            return child;
+        }
+        next = child.place;
+        c = w.offer(c + 1);
+    }
+    Fault {
+        code: 0,
+        place: next,
+        pattern: 0,
     }
 }
 
