@@ -27,11 +27,11 @@ compiled='cli/Cargo.toml cli/Cargo.lock cli/src calls/Cargo.toml calls/build.rs 
 
 # fresh STAMP PATH..: nothing below the paths has changed since the stamp. What counts is not the date of a file's content but
 # that of its last change, so that a file which comes with an old date is seen too; one that goes changes its folder. What rt
-# itself makes is no source: the folder out/ of a crate, by which the crate's own folder changes.
+# itself makes in a crate, its folder out/, is no source.
 fresh() {
     stamp=$1
     shift
-    [ -e "$stamp" ] && [ -z "$(find "$@" -path 'crates/*/out' -prune -o -path 'crates/*' ! -path 'crates/*/*' -o -cnewer "$stamp" -print 2>&1 | head -n 1)" ]
+    [ -e "$stamp" ] && [ -z "$(find "$@" -path 'crates/*/out' ! -path 'crates/*/*/out' -prune -o -cnewer "$stamp" -print 2>&1 | head -n 1)" ]
 }
 
 # stamped STAMP COMMAND..: runs the command. The stamp is as old as its start, so that what changes meanwhile counts as changed,
@@ -87,6 +87,8 @@ build() {
         command -v "$tool" >/dev/null || fail "the command is not built yet, and $tool, which builds it, is not on the PATH"
     done
     mkdir -p "$built" || fail "$built cannot be made"
+    # Before the stamps: a folder that rt made later would change the crate's own.
+    for crate in $(archived); do [ ! -d "$crate" ] || mkdir -p "$crate/out"; done
     # Two that build at once would tread on each other. The lock is on this file and goes with the process.
     if command -v flock >/dev/null; then
         exec 9<"$here/zap"

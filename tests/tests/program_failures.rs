@@ -23,35 +23,38 @@ fn program(name: &str) -> PathBuf {
     file
 }
 
-/// What it prints, and what it complains about. One that does not end is ended: a
+/// What it prints, what it complains about, and its exit status. One that does not end is ended: a
 /// program that waits for an input which never comes has missed the failure.
-fn run(name: &str, input: Stdio, output: Stdio) -> (String, String) {
+fn run(name: &str, input: Stdio, output: Stdio) -> (String, String, Option<i32>) {
     let mut command = Command::new(program(name));
     command.stdin(input).stdout(output).stderr(Stdio::piped());
     let mut child = command.spawn().expect("it can be run");
     // A pipe ends only if nobody here holds an end of it.
     drop(command);
     let start = Instant::now();
-    while child.try_wait().expect("a child").is_none() {
+    let status = loop {
+        if let Some(status) = child.try_wait().expect("a child") {
+            break status.code();
+        }
         if start.elapsed() > Duration::from_secs(20) {
             child.kill().expect("it runs");
             child.wait().expect("it ends");
             panic!("{name} does not end");
         }
         thread::sleep(Duration::from_millis(1));
-    }
+    };
     let (mut out, mut err) = (String::new(), String::new());
     if let Some(mut pipe) = child.stdout.take() {
         pipe.read_to_string(&mut out).expect("text");
     }
     child.stderr.take().expect("piped").read_to_string(&mut err).expect("text");
-    (out, err)
+    (out, err, status)
 }
 
-/// It prints nothing, and complains in one line about this, with the system's reason.
+/// It prints nothing, complains in one line about this, with the system's reason, and ends with 1.
 fn expect_complaint(name: &str, input: Stdio, output: Stdio, about: &str, reason: &str) {
     let printed = run(name, input, output);
-    assert_eq!(printed, (String::new(), format!("{name}: {about}: {reason}\n")));
+    assert_eq!(printed, (String::new(), format!("{name}: {about}: {reason}\n"), Some(1)));
 }
 
 fn both_functions() -> Vec<u8> {
@@ -122,7 +125,7 @@ fn a_pipe_that_ends_after_half() {
             }
             drop(writer);
             let printed = run(name, reader.into(), Stdio::piped());
-            assert_eq!(printed, ("1 0 2 5 0\n".to_string(), String::new()), "{name}");
+            assert_eq!(printed, ("1 0 2 5 0\n".to_string(), String::new(), Some(0)), "{name}");
         }
     }
 }

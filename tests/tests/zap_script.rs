@@ -297,6 +297,8 @@ fn changes_and_what_they_build() {
         ("mkdir -p crates/a/proofs/deep && echo new >crates/a/proofs/deep/New.antt", both),
         ("echo more >>crates/a/proofs/deep/New.antt", both),
         ("rm crates/a/proofs/deep/New.antt", both),
+        ("mkdir crates/a/proofs/deep/out && echo new >crates/a/proofs/deep/out/New.antt", both),
+        ("rm -r crates/a/proofs", both),
         ("cp -p ../old crates/a/src/lib.rt", both),
         ("cp -p ../old ../older && mv ../older crates/a/src/lib.rt", both),
         ("touch -d 2001-01-01 crates/a/src/lib.rt", both),
@@ -315,7 +317,7 @@ fn changes_and_what_they_build() {
         ("rm -r cli/target", both),
         ("rm -r target cli/target", both),
         // What rt makes anew, a crate that host does not use, and what is no source at all.
-        ("rm -r crates/host_c/out && mkdir crates/host_c/out && echo made >crates/host_c/out/new", &[]),
+        ("echo made >crates/host_c/out/new && mkdir -p crates/a/out/deep && echo made >crates/a/out/deep/new", &[]),
         ("echo more >>crates/other/src/lib.rt", &[]),
         ("echo more >README.md && mkdir tests && echo new >tests/new", &[]),
     ] {
