@@ -31,6 +31,7 @@ pub struct Figures {
 const CUBES: usize = 5;
 
 // The code for one cube of n inputs: 5, 6 or 0.
+#[tactic(auto, using(crate::proofs::Codes::code_five, crate::proofs::Codes::code_six, crate::proofs::Codes::code_none))]
 fn cube_code(pos: u8, neg: u8, n: u8) -> u8
     requires { n ≤ 8 }
     ensures { result ≡ cube_code n pos neg }
