@@ -1,4 +1,5 @@
 pub mod Faults
+pub mod Verdicts
 pub mod Stores
 pub mod Told
 pub mod Settled

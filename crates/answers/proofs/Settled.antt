@@ -3,6 +3,8 @@ use mathlib.Core.Path.{sym, ◌∙◌}
 use Rattle.settled.specs.Settled.{Settled, SettledAs}
 use mathlib.Core.List.{List}
 use Prim.Native.Nat.{ℕ}
+use Rattle.answers.proofs.Fault.at.Kinds as at_kinds
+use Rattle.answers.proofs.Fault.at.Reads as at
 use Rattle.answers.proofs.accepted.Kinds as accepted_kinds
 use Rattle.answers.proofs.accepted.Reads as accepted
 use Rattle.answers.proofs.refused.Kinds as refused_kinds
@@ -11,8 +13,6 @@ use Rattle.answers.proofs.refused_by.Kinds as refused_by_kinds
 use Rattle.answers.proofs.refused_by.Reads as refused_by
 use Rattle.answers.proofs.byte_fault.Kinds as byte_fault_kinds
 use Rattle.answers.proofs.byte_fault.Reads as byte_fault
-use Rattle.answers.proofs.then_byte.Kinds as then_byte_kinds
-use Rattle.answers.proofs.then_byte.Reads as then_byte
 use Rattle.answers.proofs.length_fault.Kinds as length_fault_kinds
 use Rattle.answers.proofs.length_fault.Reads as length_fault
 use Rattle.answers.proofs.pack.Kinds as pack_kinds
@@ -36,13 +36,10 @@ pub refused_by_settled : Settled 0 refused_by_kinds.ps refused_by_kinds.r refuse
 refused_by_settled κs a r₁ r₂ s₁ s₂ p q = p ∙ sym q
 
 pub byte_fault_settled : Settled 1 byte_fault_kinds.ps byte_fault_kinds.r byte_fault.Post
-byte_fault_settled κs a r₁ r₂ s₁ s₂ p q = p ∙ sym q
-
-pub then_byte_settled : Settled 1 then_byte_kinds.ps then_byte_kinds.r then_byte.Post
-then_byte_settled κs a r₁ r₂ s₁ s₂ p q = p ∙ sym q
+byte_fault_settled κs a r₁ r₂ s₁ s₂ p q = p.1.0 ∙ sym q.1.0
 
 pub length_fault_settled : Settled 0 length_fault_kinds.ps length_fault_kinds.r length_fault.Post
-length_fault_settled κs a r₁ r₂ s₁ s₂ p q = p ∙ sym q
+length_fault_settled κs a r₁ r₂ s₁ s₂ p q = p.0 ∙ sym q.0
 
 pub pack_settled : Settled 0 pack_kinds.ps pack_kinds.r pack.Post
 pack_settled κs a r₁ r₂ s₁ s₂ p q = p.0 ∙ sym q.0
@@ -59,3 +56,6 @@ store_three_settled κs a r₁ r₂ s₁ s₂ p q = p ∙ sym q
 
 pub leave_settled : SettledAs 2 leave_kinds.ps leave_kinds.r (λ κs. ℕ × List ℕ) (λ κs x s. (x, s.0.now)) leave.Post
 leave_settled κs a r₁ r₂ s₁ s₂ p q i = ((p.returned ∙ sym q.returned) i, (p.slice ∙ sym q.slice) i)
+
+pub at_settled : Settled 0 at_kinds.ps at_kinds.r at.Post
+at_settled κs a r₁ r₂ s₁ s₂ p q = p ∙ sym q

@@ -12,10 +12,6 @@ pub told_fits : (a : Answer) → a.place ≤ most_told → told a ≡ a
 unfolding told
 told_fits a h = ap (with_place a) (omega arith)
 
-pub told_beyond : (a : Answer) → most_told < a.place → told a ≡ with_place a most_told
-unfolding told
-told_beyond a h = ap (with_place a) (omega arith)
-
 -- a packed number of an answer is one of its equal
 pub packed_as : (r : ℕ) {a b : Answer} → a ≡ b → (r ≡ packed a) × Tells a r → (r ≡ packed b) × Tells b r
 packed_as r = subst (λ (a : Answer). (r ≡ packed a) × Tells a r)

@@ -1,13 +1,15 @@
 // The five numbers of an answer, faults found while bytes are read in order, and writing into a lent buffer.
 #![tactic(auto)]
 
-ghost use Rattle.std.specs.Prelude.{◌≡◌, [], ◌∷◌, ◌+◌, ◌^◌, ◌≤◌, ◌<◌, length};
+ghost use Rattle.std.specs.Prelude.{◌≡◌, ℕ, [], ◌∷◌, ◌+◌, ◌^◌, ◌≤◌, ◌<◌, OnOk, length, get_or};
 ghost use Rattle.std.proofs.lemmas.List.Edits.{sets};
-ghost use Rattle.answers.specs.Answers.{◌then◌, byte_fault, length_fault, refused_by, stored_if_room, Leaves, packed, told, Tells};
+ghost use Rattle.answers.specs.Answers.{fault, byte_fault, length_fault, refused_by, stored_if_room, Leaves, packed, told, Tells};
 ghost use Rattle.answers.specs.Answers.{accepted as accepting, refused as refusing};
+ghost use Rattle.answers.specs.Verdicts.{number, verdict, fault_of, byte_test};
 
-// What reader, summary, matcher, checker and writer answer.
-#[derive(Clone, Copy)]
+// What reader, summary, matcher, checker and writer answer, in the numbers of document 01. Five numbers and no Result: C is told
+// them in one word, and the theorems on `checking`, `matching` and the others speak of them (`Tells`).
+#[derive(Clone, Copy, PartialEq, Eq)]
 pub struct Answer {
     pub code: u8,
     pub kind: u8,
@@ -16,12 +18,71 @@ pub struct Answer {
     pub pattern: u8,
 }
 
-// A fault, its place in the bytes that were read and the pattern that it names; code 0 where there is none.
-#[derive(Clone, Copy)]
+// What an accepted answer is of: its kind.
+#[derive(Clone, Copy, PartialEq, Eq)]
+pub enum Kind {
+    Match = 1,
+    NoMatch = 2,
+    AllElse = 3,
+}
+
+// What a refused answer is of: its record. The writer's two lists are told as f and g are, and a table as f.
+#[derive(Clone, Copy, PartialEq, Eq)]
+pub enum Of {
+    Nothing = 0,
+    F = 1,
+    G = 2,
+    Claim = 3,
+    Out = 4,
+}
+
+// Why something is refused: its code.
+#[derive(Clone, Copy, PartialEq, Eq)]
+pub enum Code {
+    EndsEarly = 1,
+    WrongMark = 2,
+    BadN = 3,
+    BadCount = 4,
+    BeyondN = 5,
+    InBothMasks = 6,
+    OnAndOff = 7,
+    BytesFollow = 8,
+    NDiffers = 9,
+    ClaimN = 10,
+    BadQ = 11,
+    BadChoice = 12,
+    UsedTwice = 13,
+    NotAgreeing = 14,
+    BadNode = 15,
+    SplitAtN = 16,
+    NotDead = 17,
+    BufferShort = 18,
+    OddList = 19,
+    BadLine = 20,
+    Keyword = 21,
+    TermCount = 22,
+}
+
+// A fault: its code, its place in the bytes that were read and the pattern that it names. Its code may be any number, as in the
+// functions below: a `Code` there would ask more of their callers.
+#[derive(Clone, Copy, PartialEq, Eq)]
 pub struct Fault {
     pub code: u8,
     pub place: usize,
     pub pattern: u8,
+}
+
+impl Fault {
+    // One that names no pattern.
+    pub fn at(code: Code, place: usize) -> Self
+        ensures { result ≡ fault (number code) place }
+    {
+        Fault {
+            code: code as u8,
+            place,
+            pattern: 0,
+        }
+    }
 }
 
 pub fn accepted(kind: u8, place: usize) -> Answer
@@ -62,86 +123,61 @@ pub fn refused_by(who: u8, fault: Fault) -> Answer
 }
 
 // Byte k of a header has to be there, and from low to high.
-pub fn byte_fault(s: &[u8], k: usize, low: u8, high: u8, code: u8) -> Fault
-    ensures { result ≡ byte_fault s.now k low high code }
+#[tactic(auto, unfolding(crate::specs::Answers::byte_fault, crate::specs::Verdicts::fault_of, crate::specs::Verdicts::byte_test))]
+pub fn byte_fault(s: &[u8], k: usize, low: u8, high: u8, code: u8) -> Result<(), Fault>
+    ensures value { fault_of result ≡ byte_fault s.now k low high code }
+    ensures tests { result ≡ byte_test s.now k low high code }
+    ensures there { OnOk result (k < length s.now) }
+    ensures least { OnOk result (low ≤ get_or s.now k 0) }
+    ensures most { OnOk result (get_or s.now k 0 ≤ high) }
 {
     if s.len() <= k {
-        return Fault {
-            code: 1,
-            place: s.len(),
-            pattern: 0,
-        };
+        return Err(Fault::at(Code::EndsEarly, s.len()));
     }
-    let b = s[k];
-    if b < low {
-        return Fault {
+    if s[k] < low || high < s[k] {
+        return Err(Fault {
             code,
             place: k,
             pattern: 0,
-        };
+        });
     }
-    if high < b {
-        return Fault {
-            code,
-            place: k,
-            pattern: 0,
-        };
-    }
-    Fault {
-        code: 0,
-        place: 0,
-        pattern: 0,
-    }
-}
-
-// The fault so far, or else that of byte k.
-pub fn then_byte(so_far: Fault, s: &[u8], k: usize, low: u8, high: u8, code: u8) -> Fault
-    ensures { result ≡ so_far then byte_fault s.now k low high code }
-{
-    if so_far.code != 0 {
-        return so_far;
-    }
-    byte_fault(s, k, low, high, code)
+    Ok(())
 }
 
 // The bytes have to end just at `end`.
-pub fn length_fault(len: usize, end: usize) -> Fault
-    ensures { result ≡ length_fault len end }
+#[tactic(auto, unfolding(crate::specs::Answers::length_fault, crate::specs::Verdicts::verdict))]
+pub fn length_fault(len: usize, end: usize) -> Result<(), Fault>
+    ensures value { result ≡ verdict (length_fault len end) }
+    ensures ends { OnOk result (len ≡ end) }
 {
     if len < end {
-        return Fault {
-            code: 1,
-            place: len,
-            pattern: 0,
-        };
+        return Err(Fault::at(Code::EndsEarly, len));
     }
     if end < len {
-        return Fault {
-            code: 8,
-            place: end,
-            pattern: 0,
-        };
+        return Err(Fault::at(Code::BytesFollow, end));
     }
-    Fault {
-        code: 0,
-        place: 0,
-        pattern: 0,
-    }
+    Ok(())
+}
+
+// Room for so many bytes, to be lent: all zero.
+pub fn room<const N: usize>() -> [u8; N]
+    ensures len { N ≡ length result }
+    ensures zero { (i : ℕ) → get_or result i 0 ≡ 0 }
+{
+    [0; N]
 }
 
 // Stores the bytes into the buffer from `at` on.
+#[tactic(auto, using(crate::proofs::Stores::pasted))]
 pub fn put(out: &mut [u8], at: usize, bytes: &[u8])
     requires { at + length bytes.now ≤ length out.old }
     ensures { out.new ≡ sets out.old at bytes.now }
 {
-    let mut i = 0;
-    while i < bytes.len() {
-        out[at + i] = bytes[i];
-        i += 1;
-    }
+    out[at..at + bytes.len()].copy_from_slice(bytes);
 }
 
 // Stores the bytes at the buffer's start, if they fit, and tells how many they are.
+#[tactic(auto, using(crate::proofs::Stores::stored_with_room, crate::proofs::Stores::stored_without_room))]
 pub fn leave(out: &mut [u8], bytes: &[u8]) -> usize
     ensures { Leaves (length bytes.now) bytes.now out.old out.new result }
 {
@@ -154,18 +190,18 @@ pub fn leave(out: &mut [u8], bytes: &[u8]) -> usize
 }
 
 // Stores three numbers at the slice's start, if it has room for them.
+#[tactic(auto, unfolding(crate::specs::Answers::stored_if_room))]
 pub fn store_three(numbers: &mut [u64], x: u64, y: u64, z: u64)
     ensures { numbers.new ≡ stored_if_room (x ∷ y ∷ z ∷ []) numbers.old }
 {
     if numbers.len() < 3 {
         return;
     }
-    numbers[0] = x;
-    numbers[1] = y;
-    numbers[2] = z;
+    numbers[..3].copy_from_slice(&[x, y, z]);
 }
 
 // One number for a host.
+#[tactic(auto, unfolding(crate::specs::Answers::packed))]
 pub fn pack(answer: Answer) -> u64
     requires { answer.place < 2 ^ 32 }
     ensures value { result ≡ packed answer }
@@ -183,18 +219,13 @@ pub fn pack(answer: Answer) -> u64
 const MOST_TOLD: usize = 0xFFFF_FFFF;
 
 // One number for a host, whatever the place: beyond the largest that fits, that one is told.
+#[tactic(auto, unfolding(crate::specs::Answers::told))]
 pub fn tell(answer: Answer) -> u64
     ensures value { result ≡ packed (told answer) }
     ensures tells { Tells (told answer) result }
 {
-    if answer.place <= MOST_TOLD {
-        return pack(answer);
-    }
     pack(Answer {
-        code: answer.code,
-        kind: answer.kind,
-        record: answer.record,
-        place: MOST_TOLD,
-        pattern: answer.pattern,
+        place: answer.place.min(MOST_TOLD),
+        ..answer
     })
 }

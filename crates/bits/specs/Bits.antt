@@ -1,6 +1,7 @@
 -- Bits of a number, and tests of every number below a bound. All of it is executable.
 use Rattle.std.specs.Prelude.{ℕ, zero, suc, ◌+◌, ◌*◌, ◌/◌, ◌%◌, ◌^◌, ◌<◌, min, ◌≡◌, Bool, true, false, cond, ◌&&◌, ◌||◌, eqb}
-use Rattle.std.proofs.Math.Option.{Option, none, some}
+use Rattle.std.specs.declared.option.Option.{Option}
+use Rattle.std.specs.declared.option.Option.TheVariants.{None, Some}
 
 -- bit i of x: 0 or 1
 unfoldable pub bit : ℕ → ℕ → ℕ
@@ -36,13 +37,13 @@ count (suc n) p = count n p + cond (p n) 1 0
 
 -- what was found, or else the next
 unfoldable pub or_next : Option ℕ → Option ℕ → Option ℕ
-or_next none next = next
-or_next (some x) next = some x
+or_next None next = next
+or_next (Some x) next = Some x
 
 -- the smallest number below n at which it passes, if there is one: each is looked at, upward
 unfoldable pub smallest : ℕ → (ℕ → Bool) → Option ℕ
-smallest zero p = none
-smallest (suc n) p = or_next (smallest n p) (cond (p n) (some n) none)
+smallest zero p = None
+smallest (suc n) p = or_next (smallest n p) (cond (p n) (Some n) None)
 
 -- what that means: it passes there, and nowhere below
 pub record IsSmallest (n : ℕ) (p : ℕ → Bool) (x : ℕ) : Type 0 where
@@ -52,11 +53,11 @@ pub record IsSmallest (n : ℕ) (p : ℕ → Bool) (x : ℕ) : Type 0 where
 
 -- as a number, 0 for none
 unfoldable pub or_zero : Option ℕ → ℕ
-or_zero none = 0
-or_zero (some x) = x
+or_zero None = 0
+or_zero (Some x) = x
 
 -- the lesser of two, as far as there are two
 unfoldable pub lesser : Option ℕ → Option ℕ → Option ℕ
-lesser none b = b
-lesser (some x) none = some x
-lesser (some x) (some y) = some (min x y)
+lesser None b = b
+lesser (Some x) None = Some x
+lesser (Some x) (Some y) = Some (min x y)

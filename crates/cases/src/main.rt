@@ -55,10 +55,8 @@ fn fill(s: &mut [u8], a: u8)
 {
     let header = [0x46, 0x4E, 0x01, a, 0x00];
     answers::put(s, 0, &header);
-    let mut at = 5;
-    while at + 1 < s.len() {
-        answers::put(s, at, b"\x01\x00");
-        at += 2;
+    for cube in s[5..].as_chunks_mut::<2>().0 {
+        *cube = *b"\x01\x00";
     }
 }
 

@@ -1,38 +1,31 @@
 // Single wirings of two functions of three inputs, with q = 0: whether one agrees, or its first dead pair.
-ghost use Rattle.partial.specs.Partial.{Formed};
-
 use partial::Wiring;
 use std::io;
 use std::io::Write;
 
 // Shows the choices made.
-fn choices<W: Write>(to: &mut W, w: Wiring) -> io::Result<()>
-    requires { Formed w }
-{
-    let mut i = 0u8;
-    while i < w.depth {
+fn choices<W: Write>(to: &mut W, w: Wiring) -> io::Result<()> {
+    for i in 0..w.masks.depth {
         if i != 0 {
             show::text(to, b" ")?;
         }
         show::byte(to, w.locate(i))?;
-        i += 1;
     }
     Ok(())
 }
 
 // Shows that a wiring agrees, or its first dead pair.
-fn tell<W: Write>(to: &mut W, w: Wiring, f: &[u8], g: &[u8]) -> io::Result<()>
-    requires { Formed w }
-{
-    if records::both(f, g).code != 0 {
-        return Ok(());
-    }
-    let pair = w.first_dead(f, g, 0);
-    if pair.found {
-        show::text(to, b"dead pair ")?;
-        show::three(to, pair.s as u64, pair.u as u64, pair.v as u64)
-    } else {
-        show::text(to, b"agrees")
+fn tell<W: Write>(to: &mut W, w: Wiring, f: &[u8], g: &[u8]) -> io::Result<()> {
+    let both = match records::both(f, g) {
+        Ok(both) => both,
+        Err(_) => return Ok(()),
+    };
+    match w.first_dead(both.f, both.g, 0) {
+        Some(pair) => {
+            show::text(to, b"dead pair ")?;
+            show::three(to, pair.s as u64, pair.u as u64, pair.v as u64)
+        }
+        None => show::text(to, b"agrees"),
     }
 }
 
@@ -44,7 +37,10 @@ pub fn one<W: Write>(
     g: &[u8],
     bytes: &[u8; 3],
 ) -> io::Result<()> {
-    let w = checker::wire(3, bytes, 0).wiring;
+    let w = match checker::wire(3, bytes, 0) {
+        Ok(w) => w,
+        Err(unwired) => unwired.before,
+    };
     show::text(to, name)?;
     show::text(to, b", ")?;
     choices(to, w)?;

@@ -15,28 +15,22 @@ use std::process::ExitCode;
 
 // Room for the input: two records never take more than 2,050 bytes, and a claim of 49,153 is too long whatever follows
 // (`check_enough`).
-fn records_and_claim() -> [u8; 51203]
-    ensures { 51203 ≡ length result }
-{
-    [0; 51203]
-}
+const INPUT: usize = 51203;
 
-// Reads f, g and a claim, and writes the answer.
+// Room for the text, which is never longer.
+const TEXT: usize = 37;
+
+// Reads f, g and a claim, and writes the answer. The other program reads and writes alike; one function
+// for both would need a contract over the text that it is given to make, longer than both bodies.
 fn answer<R: Read, W: Write>(reader: &mut R, out: &mut W) -> Result<(), Failure>
     ensures printed { OnOk result (IfSome (R.remaining reader.old) (λ input. Bytes input → Appends (W.contents out.old) (W.contents out.new) (check_lines input))) }
     ensures silent { IfErr result (λ e. IsInput e → Keeps (W.contents out.old) (W.contents out.new)) }
 {
-    let mut input = records_and_claim();
-    let got = match input::read_whole(reader, &mut input) {
-        Ok(got) => got,
-        Err(e) => return Err(Failure::Input(e)),
-    };
-    let mut text = [0u8; 37];
+    let mut input = answers::room::<INPUT>();
+    let got = input::read_whole(reader, &mut input).map_err(Failure::Input)?;
+    let mut text = answers::room::<TEXT>();
     let len = lines::check_lines(&input[..got], &mut text);
-    match out.write_all(&text[..len]) {
-        Ok(()) => Ok(()),
-        Err(e) => Err(Failure::Output(e)),
-    }
+    out.write_all(&text[..len]).map_err(Failure::Output)
 }
 
 fn main(rt: HostRuntime) -> ExitCode {

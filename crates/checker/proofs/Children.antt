@@ -1,23 +1,30 @@
 -- The tree at a place, case by case, and the trees of a split, choice by choice. The idea: what is left to be read of a split's
 -- trees, from choice k of the order on, is the whole answer.
 use Prim.Native.Nat.{ℕ, zero, suc, ◌+◌, ◌-◌, ◌*◌, ◌≤◌, ◌<◌}
+use mathlib.Core.Bool.{cond}
+use mathlib.Core.Logic.{⊎_elim}
 use mathlib.Core.Path.{◌≡◌, refl, sym, ap, ◌∙◌, fun_ext}
 use mathlib.Core.List.{List, [], ◌∷◌}
+use native.Mathlib.Nat.{eq-or-lt_of_le}
 use native.Mathlib.Omega.{arith}
+use Rattle.std.proofs.Common.{Ok, Err}
+use Rattle.std.specs.declared.result.Result.{Result}
 use borrow.Author.Tests.{le-leb, lt-leb, eq-eqb, ne_eqb}
+use lib.Dec.{leb, eqb}
 use lib.ListN.{length, get_or, length-append}
 use Rattle.answers.specs.declared.Fault.{Fault}
 use Rattle.answers.specs.Answers.{fault}
+use Rattle.answers.specs.Verdicts.{reached}
 use Rattle.rules.specs.Rules.{◌adding◌, next}
 use Rattle.wirings.specs.Wirings.{straight, choice_at}
 use Rattle.wirings.proofs.Choices.{offered, offered_end}
 use Rattle.partial.specs.declared.Wiring.{Wiring}
-use Rattle.partial.specs.Partial.{StandsFor, Formed, prefix, offer_from}
-use Rattle.partial.proofs.Standing.{stands_as}
-use Rattle.partial.proofs.Steps.{Next, goes_on, takes, begins, begins_all}
-use Rattle.claims.specs.Reading.{read_to, ◌onward◌, in_turn, read_tree}
-use Rattle.claims.proofs.Reading.{onward_next, onward_stop}
+use Rattle.partial.specs.Partial.{StandsFor, prefix, offer_from}
+use Rattle.partial.proofs.Standing.{stands_as, placed_within}
+use Rattle.partial.proofs.Steps.{Next, depth_is, goes_on, takes, begins, begins_all}
+use Rattle.claims.specs.Reading.{node, in_turn, read_tree}
 use Rattle.checker.specs.Checking.{closing_fault, tree_fault}
+use Rattle.checker.proofs.Reached.{from_there, readings, reached_to, reached_onward}
 
 module _ (n q : ℕ) (f g c w : List ℕ) where
   -- the trees of some choices, and of those that are offered from place k of the order on
@@ -27,80 +34,97 @@ module _ (n q : ℕ) (f g c w : List ℕ) where
   unfoldable pub children : ℕ → ℕ → Fault
   children k at = each_read (offered n w k) at
 
-  module _ (at : ℕ) where
-    -- no byte is there
-    pub tree_short : length c ≤ at → fault 1 (length c) ≡ tree_fault n q f g c w at
-    unfolding tree_fault read_tree
-    tree_short h = go (n - length w)
-      where
-        go : (k : ℕ) → fault 1 (length c) ≡ read_tree (straight n) (closing_fault n q f g c) c k w at
-        go zero = simp (le-leb (length c) at h)
-        go (suc k) = simp (le-leb (length c) at h)
+  -- a node: no byte, a split, which is refused where no input is left, or a closing
+  abbrev at_node : ℕ → Fault → Fault
+  at_node at split = node (straight n) (closing_fault n q f g c) c w at split
 
-    module _ (there : at < length c) where
-      -- it is not FF
-      pub tree_closing : (get_or c at 0 ≡ 0xFF → ⊥) → closing_fault n q f g c w at ≡ tree_fault n q f g c w at
-      unfolding tree_fault read_tree
-      tree_closing h = go (n - length w)
-        where
-          go : (k : ℕ) → closing_fault n q f g c w at ≡ read_tree (straight n) (closing_fault n q f g c) c k w at
-          go zero = simp (lt-leb (length c) at there, ne_eqb (get_or c at 0) 0xFF h)
-          go (suc k) = simp (lt-leb (length c) at there, ne_eqb (get_or c at 0) 0xFF h)
+  node_is : (at : ℕ) → tree_fault n q f g c w at ≡ at_node at (cond (leb n (length w)) (fault 16 at) (children 0 (at + 1)))
+  unfolding tree_fault read_tree children offered
+  node_is at = go (n - length w) refl
+    where
+      read : ℕ → List ℕ → ℕ → Fault
+      read = read_tree (straight n) (closing_fault n q f g c) c
 
-      module _ (marked : get_or c at 0 ≡ 0xFF) where
-        -- it is, and no input is left to be placed
-        pub tree_deep : length w ≡ n → fault 16 at ≡ tree_fault n q f g c w at
-        unfolding tree_fault read_tree
-        tree_deep h = simp (sub_self_of n (length w) h, lt-leb (length c) at there, eq-eqb (get_or c at 0) 0xFF marked)
-          where
-            sub_self_of : (n m : ℕ) → m ≡ n → n - m ≡ 0
-            sub_self_of n m h = omega arith
-
-        -- it is, and one is
-        pub tree_split : length w < n → children 0 (at + 1) ≡ tree_fault n q f g c w at
-        unfolding tree_fault read_tree children offered
-        tree_split h =
-            let k = n - suc (length w) in
-            let left : n - length w ≡ suc k = omega arith in
-            let read : ℕ → List ℕ → ℕ → Fault = read_tree (straight n) (closing_fault n q f g c) c in
-            let less : (b : ℕ) → n - length (w adding b) ≡ k = λ b. omega (arith, length-append w (b ∷ [])) in
-            simp (left, lt-leb (length c) at there, eq-eqb (get_or c at 0) 0xFF marked)
-            (ap (λ (each : ℕ → ℕ → Fault). in_turn each (next (straight n) w) (at + 1)) (fun_ext (λ b. ap (λ (m : ℕ). read m (w adding b)) (less b))))
+      go : (k : ℕ) → n - length w ≡ k → read k w at ≡ at_node at (cond (leb n (length w)) (fault 16 at) (children 0 (at + 1)))
+      go zero e = simp (le-leb n (length w) (omega (arith, e))) refl
+      go (suc k) e =
+          let less : (b : ℕ) → k ≡ n - length (w adding b) = λ b. omega (arith, length-append w (b ∷ []), e) in
+          simp (lt-leb n (length w) (omega (arith, e)))
+          (ap (λ (each : ℕ → ℕ → Fault). at_node at (in_turn each (next (straight n) w) (at + 1)))
+          (fun_ext (λ b. ap (λ (m : ℕ). read m (w adding b)) (less b))))
 
 -- ---- as the code meets them, with the choices in a wiring by value
 
-module _ (r : Wiring) (q : ℕ) (f g c : List ℕ) where
+module _ (x : Wiring) (q : ℕ) (f g c : List ℕ) where
   abbrev n : ℕ
-  n = r.n
+  n = x.masks.n
 
   abbrev w : List ℕ
-  w = prefix r
+  w = prefix x.masks
+
+  -- what its tree comes to, and the trees from choice k on, or those of a list
+  abbrev pub whole : ℕ → Result ℕ Fault
+  whole at = reached (tree_fault n q f g c w at)
+
+  abbrev pub left : ℕ → ℕ → Result ℕ Fault
+  left k at = reached (children n q f g c w k at)
+
+  abbrev listed : ℕ → List ℕ → Result ℕ Fault
+  listed at l = reached (each_read n q f g c w l at)
+
+  pub tree_node : (at : ℕ)
+      → whole at
+      ≡ cond (leb (length c) at) (Err (fault 1 (length c)))
+      (cond (eqb (get_or c at 0) 0xFF) (cond (eqb x.masks.depth n) (Err (fault 16 at)) (left 0 (at + 1)))
+      (reached (closing_fault n q f g c w at)))
+  tree_node at = ap reached (node_is n q f g c w at) ∙ grind (arith, readings, depth_told)
+    where
+      depth_told : leb n (length w) ≡ eqb x.masks.depth n
+      depth_told =
+          let told = depth_is x.masks x.formed in
+          ⊎_elim (λ (e : length w ≡ n). simp (le-leb n (length w) (omega (arith, e)), eq-eqb x.masks.depth n (omega (arith, told, e))) refl)
+          (λ (h : length w < n). simp (lt-leb n (length w) h, ne_eqb x.masks.depth n (λ e. omega (arith, told, h, e))) refl)
+          (eq-or-lt_of_le (placed_within n x.formed.few w x.formed.allowed))
 
   -- the trees before choice k are read, up to `at`; what is left is the whole answer
   pub record Reading (start k at : ℕ) : Type 0 where
     pub next : Next n w k
-    pub rest : children n q f g c w k at ≡ tree_fault n q f g c w start
+    pub rest : left k at ≡ whole start
 
-  module _ (s : Formed r) where
-    pub reading_start : (start k at : ℕ) → k ≡ offer_from n w 0 → children n q f g c w 0 at ≡ tree_fault n q f g c w start → Reading start k at
-    unfolding children
-    reading_start start k at first e = record { next = begins r s k first; rest = ap (λ (l : List ℕ). each_read n q f g c w l at) (sym (begins_all r s k first)) ∙ e }
+  pub reading_start : (start k : ℕ) → start < length c → get_or c start 0 ≡ 0xFF → (x.masks.depth ≡ n → ⊥) → k ≡ offer_from n w 0
+      → Reading start k (start + 1)
+  unfolding children
+  reading_start start k there marked deeper first = record {
+    next = begins x.masks x.formed k first;
+    rest =
+        ap (listed (start + 1)) (sym (begins_all x.masks x.formed k first))
+        ∙ sym (tree_node start ∙ simp (lt-leb (length c) start there, eq-eqb (get_or c start 0) 0xFF marked, ne_eqb x.masks.depth n deeper) refl);
+  }
 
-    module _ (start k at b : ℕ) (so_far : Reading start k at) (h : k < 2 * n) (is : b ≡ choice_at k) (r' : Wiring) (placed : StandsFor r' n (w adding b)) (child : Fault)
-        (read : child ≡ tree_fault r'.n q f g c (prefix r') at) where
-      -- the child's tree, and those after it
-      through_child : (k' : ℕ) → k' ≡ offer_from n w (k + 1) → child onward children n q f g c w k' ≡ tree_fault n q f g c w start
-      unfolding children in_turn
-      through_child k' next =
-          ap (λ (x : Fault). x onward children n q f g c w k') (read ∙ stands_as r' n (w adding b) placed (λ m v. tree_fault m q f g c v at))
-          ∙ ap (λ (l : List ℕ). each_read n q f g c w l at) (sym (takes r s k b h is so_far.next k' next)) ∙ so_far.rest
-
-      pub child_read : child.code ≡ 0 → (k' : ℕ) → k' ≡ offer_from n w (k + 1) → Reading start k' child.place
-      child_read e k' next = record { next = goes_on r s k b h is so_far.next k' next; rest = sym (onward_next child (children n q f g c w k') e) ∙ through_child k' next }
-
-      pub child_refused : (child.code ≡ 0 → ⊥) → child ≡ tree_fault n q f g c w start
-      child_refused e = let k' = offer_from n w (k + 1) in sym (onward_stop child (children n q f g c w k') e) ∙ through_child k' refl
-
-    pub all_read : (start k at : ℕ) → Reading start k at → 2 * n ≤ k → read_to at ≡ tree_fault n q f g c w start
+  module _ (start k at b : ℕ) (so_far : Reading start k at) (h : k < 2 * n) (is : b ≡ choice_at k)
+      (y : Wiring) (placed : StandsFor y.masks n (w adding b)) (child : Result ℕ Fault)
+      (read : child ≡ reached (tree_fault y.masks.n q f g c (prefix y.masks) at)) where
+    -- the child's tree, and those after it
+    through_child : (k' : ℕ) → k' ≡ offer_from n w (k + 1) → from_there child (left k') ≡ whole start
     unfolding children in_turn
-    all_read start k at so_far h = ap (λ (l : List ℕ). each_read n q f g c w l at) (sym (offered_end n w k h)) ∙ so_far.rest
+    through_child k' after =
+        ap (λ (r : Result ℕ Fault). from_there r (left k'))
+        (read ∙ stands_as y.masks n (w adding b) placed (λ m v. reached (tree_fault m q f g c v at)))
+        ∙ sym (reached_onward (tree_fault n q f g c (w adding b) at) (children n q f g c w k'))
+        ∙ ap (listed at) (sym (takes x.masks x.formed k b h is so_far.next k' after))
+        ∙ so_far.rest
+
+    pub child_read : (end k' : ℕ) → child ≡ Ok end → k' ≡ offer_from n w (k + 1) → Reading start k' end
+    child_read end k' e after = record {
+      next = goes_on x.masks x.formed k b h is so_far.next k' after;
+      rest = ap (λ (r : Result ℕ Fault). from_there r (left k')) (sym e) ∙ through_child k' after;
+    }
+
+    pub child_refused : (bad : Fault) → child ≡ Err bad → Err bad ≡ whole start
+    child_refused bad e =
+        let k' = offer_from n w (k + 1) in
+        ap (λ (r : Result ℕ Fault). from_there r (left k')) (sym e) ∙ through_child k' refl
+
+  pub all_read : (start k at : ℕ) → Reading start k at → 2 * n ≤ k → Ok at ≡ whole start
+  unfolding children in_turn
+  all_read start k at so_far h = sym (reached_to at) ∙ ap (listed at) (sym (offered_end n w k h)) ∙ so_far.rest

@@ -1,29 +1,31 @@
 -- What was found of two functions' disagreement says which fault the wiring has: none, or 14 with the pattern.
 use Prim.Native.Nat.{ℕ, ◌^◌}
-use mathlib.Core.Path.{◌≡◌, sym, ap, ◌∙◌}
-use mathlib.Core.Bool.{Bool}
+use mathlib.Core.Path.{◌≡◌, refl}
+use mathlib.Core.Bool.{Bool, cond}
 use mathlib.Core.List.{List}
-use mathlib.Core.Option.{Option}
-use Rattle.bits.specs.Bits.{or_zero}
+use Rattle.std.proofs.Common.{Ok, Err, Option, None, Some}
+use Rattle.std.specs.declared.result.Result.{Result}
+use Rattle.std.specs.Prelude.{not}
+use Rattle.bits.specs.Bits.{any, smallest, or_zero}
 use Rattle.bits.proofs.Smallest.{found_any, none_any}
-use Rattle.cubes.specs.declared.Shared.{Shared}
-use Rattle.cubes.specs.declared.Shared.TheVariants.{Nowhere, At}
-use Rattle.cubes.specs.Values.{pattern_of}
+use Rattle.answers.specs.declared.Fault.{Fault}
 use Rattle.answers.specs.Answers.{fault_at, sound}
+use Rattle.answers.specs.Verdicts.{verdict}
 use Rattle.records.specs.Records.{inputs}
 use Rattle.wirings.specs.Wirings.{read_at, disagree_at, agrees, disagreement}
 use Rattle.checker.specs.Checking.{agreement_fault}
 
-module _ (q : ℕ) (f g w : List ℕ) (r : Shared) (e : pattern_of r ≡ disagreement q f g w) where
-  abbrev differ : ℕ → Bool
-  differ y = disagree_at q f g (read_at w y) y
+abbrev pub agreed : Option ℕ → Result (Unit {0}) Fault
+agreed None = Ok (tt {0})
+agreed (Some x) = Err (fault_at 14 0 x)
 
-  pub agree_nowhere : r ≡ Nowhere → agreement_fault q f g w ≡ sound
-  unfolding agreement_fault agrees disagreement pattern_of
-  agree_nowhere h = simp (none_any differ (2 ^ inputs g) (sym e ∙ ap pattern_of h))
+pub agreement_by : (q : ℕ) (f g w : List ℕ) → verdict (agreement_fault q f g w) ≡ agreed (disagreement q f g w)
+unfolding agreement_fault agrees disagreement or_zero verdict
+agreement_by q f g w = go (smallest (2 ^ inputs g) differ) refl
+  where
+    differ : ℕ → Bool
+    differ y = disagree_at q f g (read_at w y) y
 
-  pub disagree_at_pattern : (x : ℕ) → r ≡ At x → agreement_fault q f g w ≡ fault_at 14 0 x
-  unfolding agreement_fault agrees disagreement pattern_of or_zero
-  disagree_at_pattern x h =
-      let found = sym e ∙ ap pattern_of h in
-      simp (found_any differ (2 ^ inputs g) x found) (ap (λ (o : Option ℕ). fault_at 14 0 (or_zero o)) found)
+    go : (o : Option ℕ) → smallest (2 ^ inputs g) differ ≡ o → verdict (cond (not (any (2 ^ inputs g) differ)) sound (fault_at 14 0 (or_zero o))) ≡ agreed o
+    go None e = simp (none_any differ (2 ^ inputs g) e) refl
+    go (Some x) e = simp (found_any differ (2 ^ inputs g) x e) refl

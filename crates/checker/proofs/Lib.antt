@@ -1,3 +1,4 @@
+pub mod Reached
 pub mod Making
 pub mod Disagreeing
 pub mod Named

@@ -1,16 +1,19 @@
 -- What the checker answers: the bytes of a claim read in the order of document 01, and the first fault is the answer.
-use Rattle.std.specs.Prelude.{ℕ, ◌+◌, ◌-◌, ◌≡◌, cond, List, [], ◌∷◌, ltb, eqb, length, get_or, drop}
+use Rattle.std.specs.Prelude.{ℕ, ◌+◌, ◌-◌, ◌≡◌, cond, List, [], ◌∷◌, ltb, eqb, length, get_or, drop, Ok, Err}
 use Rattle.bits.specs.Bits.{or_zero}
 use Rattle.rules.specs.Rules.{◌adding◌}
+use Rattle.std.specs.declared.result.Result.{Result}
 use Rattle.answers.specs.declared.Answer.{Answer}
 use Rattle.answers.specs.declared.Fault.{Fault}
 use Rattle.answers.specs.Answers.{accepted, fault, fault_at, sound, present, byte_fault, length_fault, ◌then◌, by, ◌or_else◌}
 use Rattle.records.specs.Records.{inputs, both_read}
 use Rattle.wirings.specs.Wirings.{straight, is_choice, free_choice, agrees, disagreement}
 use Rattle.wirings.specs.Pairs.{cubes_in, side, against, of_pair, dead}
+use Rattle.answers.specs.Verdicts.{verdict}
+use Rattle.partial.specs.declared.Wiring.{Wiring}
 use Rattle.partial.specs.Partial.{StandsFor}
 use Rattle.claims.specs.Reading.{read_to, ◌onward◌, read_tree}
-use Rattle.checker.specs.declared.Wired.{Wired}
+use Rattle.checker.specs.declared.Unwired.{Unwired}
 
 -- the second byte of the mark, and n
 unfoldable pub header_fault : List ℕ → ℕ → ℕ → Fault
@@ -32,9 +35,17 @@ choices_made n w [] = w
 choices_made n w (b ∷ rest) = cond (eqb (choice_code n w b) 0) (choices_made n (w adding b) rest) w
 
 -- choices that are read from place `at` on: the first fault, and the wiring that has those before it
-pub record Wires (n : ℕ) (bytes : List ℕ) (at : ℕ) (r : Wired) : Type 0 where
-  pub fault : r.fault ≡ choices_fault n [] bytes at
-  pub wiring : StandsFor r.wiring n (choices_made n [] bytes)
+abbrev pub fault_told : Result Wiring Unwired → Result (Unit {0}) Fault
+fault_told (Ok w) = Ok (tt {0})
+fault_told (Err u) = Err u.fault
+
+abbrev pub wiring_made : Result Wiring Unwired → Wiring
+wiring_made (Ok w) = w
+wiring_made (Err u) = u.before
+
+pub record Wires (n : ℕ) (bytes : List ℕ) (at : ℕ) (r : Result Wiring Unwired) : Type 0 where
+  pub fault : fault_told r ≡ verdict (choices_fault n [] bytes at)
+  pub wiring : StandsFor (wiring_made r).masks n (choices_made n [] bytes)
 
 -- whether the wiring agrees: if not, 14 names the smallest pattern of g at which f and g disagree
 unfoldable pub agreement_fault : ℕ → List ℕ → List ℕ → List ℕ → Fault

@@ -4,7 +4,8 @@ use Prim.Native.Nat.{ℕ, zero, suc, ◌-◌, ◌≤◌}
 use mathlib.Core.Path.{◌≡◌, refl, sym, ◌∙◌}
 use mathlib.Core.Bool.{Bool, true, false, false≢true}
 use mathlib.Core.List.{List, []}
-use mathlib.Core.Option.{Option, none, some}
+use Rattle.std.specs.declared.option.Option.{Option}
+use Rattle.std.specs.declared.option.Option.TheVariants.{None, Some}
 use mathlib.Core.Logic.{inl}
 use native.Mathlib.Nat.{sub-zero}
 use native.Mathlib.Omega.{arith}
@@ -26,10 +27,10 @@ use Rattle.claims.proofs.Refusals.{two_each, in_names}
 
 -- ---- a node: what holds of the closing where there is a pair, and of the split where there is none, holds of it
 
-closed_cases : (Q : Tree → Type 0) (o : Option Pair) (ts : Trees) → ((p : Pair) → o ≡ some p → Q (closing p.0 p.1 p.2)) → (o ≡ none → Q (split ts)) → Q (closed_by o ts)
+closed_cases : (Q : Tree → Type 0) (o : Option Pair) (ts : Trees) → ((p : Pair) → o ≡ Some p → Q (closing p.0 p.1 p.2)) → (o ≡ None → Q (split ts)) → Q (closed_by o ts)
 unfolding closed_by
-closed_cases Q (some p) ts shut parted = shut p refl
-closed_cases Q none ts shut parted = parted refl
+closed_cases Q (Some p) ts shut parted = shut p refl
+closed_cases Q None ts shut parted = parted refl
 
 -- ---- over any rule
 
@@ -47,7 +48,7 @@ module _ (R : Rule) (n : ℕ) (first_pair : List ℕ → Option Pair) where
 
   -- and where from w nothing passes it is right: each pair that is named closes, and where none is named w is not dead
   module _ (passes dead : List ℕ → Bool) (closes : List ℕ → Pair → Bool) (d : Death R n passes dead)
-      (shut : (w : List ℕ) (p : Pair) → first_pair w ≡ some p → closes w p ≡ true) (alive : (w : List ℕ) → first_pair w ≡ none → dead w ≡ false) where
+      (shut : (w : List ℕ) (p : Pair) → first_pair w ≡ Some p → closes w p ≡ true) (alive : (w : List ℕ) → first_pair w ≡ None → dead w ≡ false) where
     pub own_right : (k : ℕ) (w : List ℕ) → Reached R n k w → ((v : List ℕ) → In v (completions R k w) → passes v ≡ false) → right R closes k w (own R first_pair k w) ≡ true
     unfolding own right completions In
     own_right zero w r h =

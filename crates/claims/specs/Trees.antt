@@ -1,7 +1,8 @@
 -- Refusal trees as data: a closing of s, u, v, or a split into trees, one for each choice that may follow. What it means that a
 -- tree is right is said over any choice rule and any test of a closing; a later request brings its own.
 use Rattle.std.specs.Prelude.{ℕ, zero, suc, ◌+◌, ◌*◌, Bool, true, false, ◌&&◌, List, [], ◌∷◌, ◌++◌}
-use Rattle.std.proofs.Math.Option.{Option, none, some}
+use Rattle.std.specs.declared.option.Option.{Option}
+use Rattle.std.specs.declared.option.Option.TheVariants.{None, Some}
 use Rattle.rules.specs.Rules.{Rule, ◌adding◌, next}
 use Rattle.wirings.specs.Pairs.{Pair}
 
@@ -45,8 +46,8 @@ module _ (R : Rule) (closes : List ℕ → Pair → Bool) where
 
 -- closed with a pair, if there is one, and else split
 unfoldable pub closed_by : Option Pair → Trees → Tree
-closed_by (some p) l = closing p.0 p.1 p.2
-closed_by none l = split l
+closed_by (Some p) l = closing p.0 p.1 p.2
+closed_by None l = split l
 
 -- a tree for each choice of a list
 unfoldable pub tree_each : (ℕ → Tree) → List ℕ → Trees

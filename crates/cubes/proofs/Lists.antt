@@ -1,60 +1,31 @@
--- Walks over a list of cubes. The idea: at place `at` of the list, what remains is the cube there and the rest from
--- `at + 2`; a loop keeps "what remains decides the whole".
-use Prim.Native.Nat.{ℕ, zero, suc, ◌+◌, ◌*◌, ◌^◌, ◌≤◌, ◌<◌, min}
+-- Lists of cubes. The idea: a list is read as its pairs, so that std's words for lists say what a loop or a chain has seen so
+-- far; what holds of some cube, or of each, goes from cube to cube.
+use Prim.Native.Nat.{ℕ, zero, suc, ◌+◌, ◌-◌, ◌*◌, ◌/◌, ◌^◌, ◌≤◌, ◌<◌, min}
 use mathlib.Core.Path.{◌≡◌, refl, sym, ap, ap₂, ◌∙◌, subst}
-use mathlib.Core.Bool.{Bool, true, false, ◌&&◌, ◌||◌, false≢true, and-false, and_comm, and-or_distrib_left}
+use mathlib.Core.Bool.{Bool, true, false, cond, ◌&&◌, ◌||◌, false≢true, and-false, and_comm, and-or_distrib_left}
 use mathlib.Core.List.{List, [], ◌∷◌}
-use mathlib.Core.Option.{Option, none, some, some-injective, some-ne-none}
 use mathlib.Core.Logic.{⊎_elim}
 use native.Mathlib.Numerals.{add-one, add-two}
 use native.Mathlib.Omega.{arith}
+use lib.Bits.{bit_and}
 use lib.ListN.{length, get_or, take, drop, length-drop}
+use lib.Pow.{pow_mono}
 use lib.Seq.{drop-cons}
-use Rattle.bits.proofs.Tests.{or_left, either, neither}
-use Rattle.bits.proofs.Below.{any_or, any_never, any_same}
+use Rattle.std.specs.Prelude.{is_some}
+use Rattle.std.specs.declared.option.Option.{Option}
+use Rattle.std.specs.declared.option.Option.TheVariants.{None, Some}
+use Rattle.std.specs.List.{list_any, count_by, filter, range_with_len}
+use Rattle.std.specs.Simd.{first_chunks}
+use Rattle.std.proofs.lemmas.Grind.{common_steps}
+use Rattle.std.proofs.lemmas.List.Folds.{list_any_more}
+use Rattle.std.proofs.lemmas.List.Sums.{length-filter, sum_by-cons}
+use Rattle.bits.specs.Bits.{any, count, smallest, lesser}
+use Rattle.bits.proofs.Tests.{either}
+use Rattle.bits.proofs.Below.{any_or, any_never, any_same, count_same, count_low}
 use Rattle.bits.proofs.Smallest.{Means, smallest_means, found_any, none_any, smallest_none, smallest_same, smallest_or}
-use Rattle.bits.specs.Bits.{any, smallest, lesser}
-use Rattle.cubes.specs.declared.Shared.{Shared}
-use Rattle.cubes.specs.declared.Shared.TheVariants.{Nowhere, At}
-use Rattle.cubes.specs.Cubes.{cube_holds, cubes_share, least_shared, some_cube, some_holds, least_with}
-use Rattle.cubes.specs.Values.{pattern_of, number_of}
-
--- what remains at a place with a whole cube: the cube, and what comes after it
-pub cube_there : (l : List ℕ) (at : ℕ) → at + 1 < length l → drop at l ≡ get_or l at 0 ∷ get_or l (at + 1) 0 ∷ drop (at + 2) l
-cube_there l at h = rw (add-one, add-two) (drop-cons l at 0 (omega arith) ∙ ap (λ (r : List ℕ). get_or l at 0 ∷ r) (drop-cons l (suc at) 0 (omega arith)))
-
-module _ (t : ℕ → ℕ → Bool) where
-  pub some_step : (l : List ℕ) (at : ℕ) → at + 1 < length l → some_cube t (drop at l) ≡ t (get_or l at 0) (get_or l (at + 1) 0) || some_cube t (drop (at + 2) l)
-  unfolding some_cube
-  some_step l at h = ap (some_cube t) (cube_there l at h)
-
-  -- less than a cube remains
-  some_short : (l : List ℕ) → length l ≤ 1 → some_cube t l ≡ false
-  unfolding some_cube
-  some_short [] h = refl
-  some_short (P ∷ []) h = refl
-  some_short (P ∷ N ∷ l) h = absurd (omega (arith, h))
-
-  pub some_end : (l : List ℕ) (at : ℕ) → length l ≤ at + 1 → some_cube t (drop at l) ≡ false
-  some_end l at h = some_short (drop at l) (omega (arith, length-drop at l))
-
-  -- a walk has come to `at` and found no cube: what remains decides
-  pub record Walk (l : List ℕ) (at : ℕ) : Type 0 where
-    pub within : at ≤ length l
-    pub rest : some_cube t l ≡ some_cube t (drop at l)
-
-  pub walk_starts : (l : List ℕ) → Walk l 0
-  walk_starts l = record { within = omega arith; rest = refl }
-
-  module _ (l : List ℕ) (at : ℕ) (w : Walk l at) where
-    pub walk_found : at + 1 < length l → t (get_or l at 0) (get_or l (at + 1) 0) ≡ true → some_cube t l ≡ true
-    walk_found h e = w.rest ∙ some_step l at h ∙ or_left _ e
-
-    pub walk_goes : at + 1 < length l → t (get_or l at 0) (get_or l (at + 1) 0) ≡ false → Walk l (at + 2)
-    walk_goes h e = record { within = omega arith; rest = w.rest ∙ some_step l at h ∙ ap (λ (b : Bool). b || some_cube t (drop (at + 2) l)) e }
-
-    pub walk_ends : length l ≤ at + 1 → some_cube t l ≡ false
-    walk_ends h = w.rest ∙ some_end l at h
+use Rattle.cubes.specs.Cubes.{cube_holds, cubes_share, least_shared, some_cube, some_holds, least_with, patterns_held}
+use Rattle.cubes.specs.Values.{in_pairs, number_of}
+use Rattle.cubes.proofs.Masks.{as_cube}
 
 -- ---- every cube of a list
 
@@ -159,122 +130,152 @@ lists_meet m h l l' = some_same _ _ l (each_all _ (λ P N. cube_meets m h P N l'
         let there = some_holds l' y in
         some_same _ _ l (each_all _ (λ P N. and_comm (cube_holds P N (h y)) there) l) ∙ some_and there _ l ∙ and_comm there (some_holds l (h y))
 
--- ---- the smallest pattern shared with a list
-
--- an answer is known by what it says
-pub pattern_one : (a b : Shared) → pattern_of a ≡ pattern_of b → a ≡ b
-unfolding pattern_of
-pattern_one Nowhere Nowhere e = refl
-pattern_one Nowhere (At y) e = absurd (some-ne-none y (sym e))
-pattern_one (At x) Nowhere e = absurd (some-ne-none x e)
-pattern_one (At x) (At y) e = ap At (some-injective x y e)
-
--- what was found says whether two cubes share a pattern
-module _ (n P N P' N' : ℕ) (r : Shared) (e : pattern_of r ≡ least_shared n P N P' N') where
-  pub shared_at : (x : ℕ) → r ≡ At x → cubes_share n P N P' N' ≡ true
-  unfolding pattern_of least_shared cubes_share
-  shared_at x h = found_any (λ x. cube_holds P N x && cube_holds P' N' x) (2 ^ n) x (sym e ∙ ap pattern_of h)
-
-  pub shared_nowhere : r ≡ Nowhere → cubes_share n P N P' N' ≡ false
-  unfolding pattern_of least_shared cubes_share
-  shared_nowhere h = none_any (λ x. cube_holds P N x && cube_holds P' N' x) (2 ^ n) (sym e ∙ ap pattern_of h)
+-- a pattern is the cube that names every input as it has it
+pub as_cubes : (x : ℕ) (l : List ℕ) → x < 2 ^ 8 → some_cube (cubes_share 8 x (2 ^ 8 - 1 - x)) l ≡ some_holds l x
+as_cubes x l h = some_same _ _ l (each_all _ (λ P N. as_cube P N x h) l)
 
 -- ---- patterns as numbers
 
 number_lesser : (a b : Option ℕ) → number_of a ≤ 256 → number_of b ≤ 256 → number_of (lesser a b) ≡ min (number_of a) (number_of b)
 unfolding number_of lesser
-number_lesser none b h k = omega arith
-number_lesser (some x) none h k = omega arith
-number_lesser (some x) (some y) h k = refl
+number_lesser None b h k = omega arith
+number_lesser (Some x) None h k = omega arith
+number_lesser (Some x) (Some y) h k = refl
 
--- a number below 256 is the pattern
-pub number_found : (o : Option ℕ) (x : ℕ) → x ≡ number_of o → x < 256 → some x ≡ o
-unfolding number_of
-number_found none x e h = absurd (omega (arith, e, h))
-number_found (some y) x e h = ap some e
-
--- a pattern of eight inputs is below 256
+-- a pattern of eight inputs is below 256, and so its number tells it
 module _ (p : ℕ → Bool) where
+  eight_or_none : (Q : Option ℕ → Type 0) → Q None → ((x : ℕ) → x < 256 → Q (Some x)) → Q (smallest (2 ^ 8) p)
+  eight_or_none Q none found = go (smallest (2 ^ 8) p) (smallest_means p (2 ^ 8))
+    where
+      go : (o : Option ℕ) → Means (2 ^ 8) p o → Q o
+      go None m = none
+      go (Some x) m = found x m.within
+
   number_le : number_of (smallest (2 ^ 8) p) ≤ 256
   unfolding number_of
-  number_le = go (smallest (2 ^ 8) p) (smallest_means p (2 ^ 8))
-    where
-      go : (o : Option ℕ) → Means (2 ^ 8) p o → number_of o ≤ 256
-      go none m = omega arith
-      go (some x) m = omega (arith, m.within)
-
-  number_none : 256 ≤ number_of (smallest (2 ^ 8) p) → none ≡ smallest (2 ^ 8) p
-  unfolding number_of
-  number_none = go (smallest (2 ^ 8) p) (smallest_means p (2 ^ 8))
-    where
-      go : (o : Option ℕ) → Means (2 ^ 8) p o → 256 ≤ number_of o → none ≡ o
-      go none m h = refl
-      go (some x) m h = absurd (omega (arith, m.within, h))
-
--- ---- the walks for the smallest pattern shared with a list
+  number_le = eight_or_none (λ o. number_of o ≤ 256) (omega arith) (λ x h. omega arith)
 
 module _ (P N : ℕ) (l : List ℕ) where
-  -- the least of what remains is that of its first cube, or of the others
-  least_step : (at : ℕ) → at + 1 < length l
-      → least_with 8 P N (drop at l) ≡ lesser (least_shared 8 P N (get_or l at 0) (get_or l (at + 1) 0)) (least_with 8 P N (drop (at + 2) l))
-  unfolding least_with least_shared
-  least_step at h =
-      smallest_same _ _ (2 ^ 8) (λ x _.
-      ap (λ (t : Bool). cube_holds P N x && t) (some_step (λ P N. cube_holds P N x) l at h)
-      ∙ and-or_distrib_left (cube_holds P N x) (cube_holds (get_or l at 0) (get_or l (at + 1) 0) x) (some_holds (drop (at + 2) l) x))
-      ∙ smallest_or (λ x. cube_holds P N x && cube_holds (get_or l at 0) (get_or l (at + 1) 0) x) (λ x. cube_holds P N x && some_holds (drop (at + 2) l) x) (2 ^ 8)
+  pub number_found : number_of (least_with 8 P N l) < 256 → least_with 8 P N l ≡ Some (number_of (least_with 8 P N l))
+  unfolding least_with number_of
+  number_found =
+      eight_or_none (λ x. cube_holds P N x && some_holds l x) (λ o. number_of o < 256 → o ≡ Some (number_of o))
+      (λ h. absurd (omega (arith, h)))
+      (λ x h k. refl)
 
-  least_end : (at : ℕ) → length l ≤ at + 1 → least_with 8 P N (drop at l) ≡ none
-  unfolding least_with
-  least_end at h =
-      smallest_none _ (2 ^ 8)
-      (any_same _ _ (2 ^ 8) (λ x _. ap (λ (t : Bool). cube_holds P N x && t) (some_end (λ P N. cube_holds P N x) l at h) ∙ and-false (cube_holds P N x)) ∙ any_never (2 ^ 8))
+  pub number_none : 256 ≤ number_of (least_with 8 P N l) → least_with 8 P N l ≡ None
+  unfolding least_with number_of
+  number_none =
+      eight_or_none (λ x. cube_holds P N x && some_holds l x) (λ o. 256 ≤ number_of o → o ≡ None)
+      (λ h. refl)
+      (λ x h k. absurd (omega (arith, h, k)))
 
-  -- a walk has come to `at`: if no cube before it is open, what remains decides
-  pub record OpenWalk (any : Bool) (at : ℕ) : Type 0 where
-    pub within : at ≤ length l
-    pub rest : any ≡ false → least_with 8 P N (drop at l) ≡ least_with 8 P N l
+-- ---- a list as pairs
 
-  pub open_starts : OpenWalk false 0
-  open_starts = record { within = omega arith; rest = λ _. refl }
+-- a test of a cube, which is kept as a pair
+abbrev pub of_pair : (ℕ → ℕ → Bool) → List ℕ → Bool
+of_pair t c = t (get_or c 0 0) (get_or c 1 0)
 
-  module _ (any : Bool) (at : ℕ) (w : OpenWalk any at) where
-    -- a cube that is not open shares nothing
-    pub open_goes : at + 1 < length l → (here : Bool) → (here ≡ false → least_shared 8 P N (get_or l at 0) (get_or l (at + 1) 0) ≡ none) → OpenWalk (any || here) (at + 2)
+-- some cube of a list passes, read off its pairs
+pub some_pairs : (t : ℕ → ℕ → Bool) (l : List ℕ) → some_cube t l ≡ list_any (of_pair t) (in_pairs l)
+unfolding some_cube in_pairs
+some_pairs t [] = refl
+some_pairs t (P ∷ []) = refl
+some_pairs t (P ∷ N ∷ l) = ap (λ (b : Bool). t P N || b) (some_pairs t l)
+
+-- something is found where some number passes
+is_found : (p : ℕ → Bool) (n : ℕ) → is_some (smallest n p) ≡ any n p
+is_found p n = go (smallest n p) refl
+  where
+    go : (o : Option ℕ) → smallest n p ≡ o → is_some o ≡ any n p
+    go None e = sym (none_any p n e)
+    go (Some x) e = sym (found_any p n x e)
+
+-- so a pattern is shared where there is a least one
+pub pairs_share : (P N : ℕ) (l : List ℕ)
+    → list_any (of_pair (λ P' N'. is_some (least_shared 8 P N P' N'))) (in_pairs l) ≡ some_cube (cubes_share 8 P N) l
+unfolding cubes_share least_shared
+pairs_share P N l =
+    sym (some_pairs _ l)
+    ∙ some_same _ _ l (each_all _ (λ P' N'. is_found (λ x. cube_holds P N x && cube_holds P' N' x) (2 ^ 8)) l)
+
+-- cutting a list into chunks of two gives its pairs
+pub pairs_cut : (l : List ℕ) → first_chunks 2 (length l / 2) l ≡ in_pairs l
+unfolding in_pairs
+pairs_cut [] = refl
+pairs_cut (P ∷ []) = refl
+pairs_cut (P ∷ N ∷ l) =
+    let more : length (P ∷ N ∷ l) / 2 ≡ suc (length l / 2) = omega arith in
+    ap (λ (k : ℕ). first_chunks 2 k (P ∷ N ∷ l)) more ∙ ap (λ (r : List (List ℕ)). (P ∷ N ∷ []) ∷ r) (pairs_cut l)
+
+-- ---- how many numbers of a range pass
+
+count_range : (p : ℕ → Bool) (a n : ℕ) → count_by p (range_with_len a n) ≡ count n (λ k. p (a + k))
+unfolding count
+count_range p a zero = refl
+count_range p a (suc n) =
+    sum_by-cons (λ k. cond (p k) 1 0) a (range_with_len (a + 1) n)
+    ∙ ap₂ (λ (t : Bool) (c : ℕ). cond t 1 0 + c) (ap p (omega arith))
+    (count_range p (a + 1) n ∙ count_same _ _ n (λ k h. ap p (omega arith)))
+    ∙ sym (count_low (λ k. p (a + k)) n)
+
+-- the patterns below 2^n, as the code reads them, that are held
+pub patterns_counted : (l : List ℕ) (n : ℕ) → n ≤ 8
+    → length (filter (λ x. some_holds l (bit_and x 255)) (range_with_len 0 (2 ^ n))) ≡ patterns_held n l
+unfolding patterns_held
+patterns_counted l n h =
+    length-filter _ (range_with_len 0 (2 ^ n)) ∙ count_range _ 0 (2 ^ n)
+    ∙ count_same (λ k. some_holds l (bit_and (0 + k) 255)) _ (2 ^ n)
+    (λ k b. ap (some_holds l) (low (0 + k) k (omega arith) (omega (arith, b, pow_mono h))))
+  where
+    low : (j k : ℕ) → j ≡ k → k < 256 → bit_and j 255 ≡ k
+    low j k e h = grind (arith, common_steps)
+
+-- ---- the smallest pattern that a cube shares with any of these pairs
+
+unfoldable pub least_of : ℕ → ℕ → List (List ℕ) → Option ℕ
+least_of P N pairs = smallest (2 ^ 8) (λ x. cube_holds P N x && list_any (of_pair (λ P N. cube_holds P N x)) pairs)
+
+module _ (P N : ℕ) where
+  pub least_pairs : (l : List ℕ) → least_with 8 P N l ≡ least_of P N (in_pairs l)
+  unfolding least_with least_of
+  least_pairs l =
+      smallest_same _ _ (2 ^ 8) (λ x _. ap (λ (t : Bool). cube_holds P N x && t) (some_pairs (λ P N. cube_holds P N x) l))
+
+  pub least_nothing : least_of P N [] ≡ None
+  unfolding least_of
+  least_nothing = smallest_none _ (2 ^ 8) (any_same _ _ (2 ^ 8) (λ x _. and-false (cube_holds P N x)) ∙ any_never (2 ^ 8))
+
+  pub number_nothing : number_of (least_of P N []) ≡ 256
+  unfolding number_of
+  number_nothing = ap number_of least_nothing
+
+  module _ (s : List (List ℕ)) (i : ℕ) (d : List ℕ) (h : i < length s) where
+    -- one pair more
+    least_more : least_of P N (take (i + 1) s)
+        ≡ lesser (least_of P N (take i s)) (least_shared 8 P N (get_or (get_or s i d) 0 0) (get_or (get_or s i d) 1 0))
+    unfolding least_of least_shared
+    least_more =
+        let c = get_or s i d in
+        let holds = λ (x : ℕ). of_pair (λ P N. cube_holds P N x) in
+        smallest_same _ _ (2 ^ 8)
+        (λ x _.
+        ap (λ (t : Bool). cube_holds P N x && t) (list_any_more (holds x) s i d h)
+        ∙ and-or_distrib_left (cube_holds P N x) (list_any (holds x) (take i s)) (holds x c))
+        ∙ smallest_or (λ x. cube_holds P N x && list_any (holds x) (take i s)) (λ x. cube_holds P N x && holds x c) (2 ^ 8)
+
+    -- where neither those before nor the pair share a pattern, none does
+    pub open_more : least_of P N (take i s) ≡ None
+        → least_shared 8 P N (get_or (get_or s i d) 0 0) (get_or (get_or s i d) 1 0) ≡ None
+        → least_of P N (take (i + 1) s) ≡ None
     unfolding lesser
-    open_goes h here shut = record {
-      within = omega arith;
-      rest = λ e.
-          let none_open = neither any here e in
-          sym (least_step at h ∙ ap (λ (o : Option ℕ). lesser o (least_with 8 P N (drop (at + 2) l))) (shut none_open.1)) ∙ w.rest none_open.0;
-    }
+    open_more none here = least_more ∙ ap₂ lesser none here
 
-    pub open_ends : length l ≤ at + 1 → any ≡ false → least_with 8 P N l ≡ none
-    open_ends h e = sym (w.rest e) ∙ least_end at h
+    pub number_more : number_of (least_of P N (take (i + 1) s))
+        ≡ min (number_of (least_of P N (take i s)))
+        (number_of (least_shared 8 P N (get_or (get_or s i d) 0 0) (get_or (get_or s i d) 1 0)))
+    unfolding least_of least_shared
+    number_more = ap number_of least_more ∙ number_lesser _ _ (number_le _) (number_le _)
 
-  -- a walk has come to `at` and has the least of the cubes before it: with what remains, it is the least of all
-  pub record LeastWalk (least at : ℕ) : Type 0 where
-    pub within : at ≤ length l
-    pub small : least ≤ 256
-    pub rest : min least (number_of (least_with 8 P N (drop at l))) ≡ number_of (least_with 8 P N l)
-
-  pub least_starts : LeastWalk 256 0
-  unfolding least_with
-  least_starts = record { within = omega arith; small = omega arith; rest = omega (arith, number_le (λ x. cube_holds P N x && some_holds l x)) }
-
-  module _ (least at : ℕ) (w : LeastWalk least at) where
-    pub least_goes : at + 1 < length l → (here next : ℕ) → here ≡ number_of (least_shared 8 P N (get_or l at 0) (get_or l (at + 1) 0)) → next ≡ min least here → LeastWalk next (at + 2)
-    unfolding least_with least_shared
-    least_goes h here next e f =
-        let first = least_shared 8 P N (get_or l at 0) (get_or l (at + 1) 0) in
-        let others = least_with 8 P N (drop (at + 2) l) in
-        let both = ap number_of (least_step at h) ∙ number_lesser first others (number_le _) (number_le _) in
-        record { within = omega arith; small = omega (arith, w.small); rest = omega (arith, both, w.rest) }
-
-    pub least_ends : length l ≤ at + 1 → least ≡ number_of (least_with 8 P N l)
-    unfolding number_of
-    least_ends h = omega (arith, w.rest, w.small, ap number_of (least_end at h))
-
-  pub least_none : 256 ≤ number_of (least_with 8 P N l) → none ≡ least_with 8 P N l
-  unfolding least_with
-  least_none = number_none _
+-- what a walk over the pairs starts with, and what it has at its end
+pub ruleset walks = (common_steps, least_nothing, number_nothing, least_pairs)

@@ -3,7 +3,7 @@
 use Prim.Native.Nat.{ℕ, ◌+◌, ◌-◌, ◌*◌, ◌/◌, ◌%◌, ◌^◌, ◌≤◌, ◌<◌, min, max}
 use mathlib.Core.Path.{◌≡◌, refl, sym, ap, ap₂, ◌∙◌}
 use mathlib.Core.Bool.{Bool, true, false, cond, ◌&&◌}
-use mathlib.Core.Option.{some, none}
+use Rattle.std.specs.declared.option.Option.TheVariants.{Some, None}
 use mathlib.Core.Logic.{⊎_elim}
 use native.Mathlib.Nat.{lt_of_le_of_lt}
 use native.Mathlib.Omega.{arith}
@@ -14,7 +14,7 @@ use Rattle.bits.specs.Bits.{bit}
 use Rattle.bits.proofs.Tests.{both, both_left, both_right, same_test, not_passed, below_or_not}
 use Rattle.bits.proofs.Below.{every_at, every_if, any_at, any_if}
 use Rattle.bits.proofs.Bit.{bit_le, bit-and, bit-or, bit_not, bit_zero, bit_mod, bit_above, bits_le, bits_eq, bits_zero}
-use Rattle.bits.proofs.Smallest.{Means, smallest_by}
+use Rattle.bits.proofs.Smallest.{smallest_by}
 use Rattle.cubes.specs.Cubes.{meets, cube_holds, cubes_share, least_shared}
 
 -- ---- a cube holds a pattern exactly when each input is as it asks
@@ -105,16 +105,26 @@ module _ (P N P' N' : ℕ) where
       any_if (λ x. cube_holds P N x && cube_holds P' N' x) (2 ^ n) (bit_or P P') (or_lt n P P' p p') (both w.0 w.1))
 
   -- the smallest pattern that they share: each input that is asked to be 1 is 1 in every shared pattern
-  pub least_masks : P < 2 ^ 8 → N < 2 ^ 8 → P' < 2 ^ 8 → N' < 2 ^ 8
-      → least_shared 8 P N P' N' ≡ cond (eqb (bit_and (bit_or P P') (bit_or N N')) 0) (some (bit_or P P')) none
+  pub shared_none : N < 2 ^ 8 → N' < 2 ^ 8 → (Clear → ⊥) → least_shared 8 P N P' N' ≡ None
   unfolding least_shared
-  least_masks p n p' n' = smallest_by shared (2 ^ 8) _ (go (eqb (bit_and (bit_or P P') (bit_or N N')) 0) refl)
+  shared_none n n' crossed =
+      smallest_by _ (2 ^ 8) None
+      (λ x _.
+      not_passed _
+      (λ e. crossed (shared_clear n n' x (both_left (cube_holds P N x) (cube_holds P' N' x) e) (both_right (cube_holds P N x) (cube_holds P' N' x) e))))
+
+  pub shared_least : P < 2 ^ 8 → P' < 2 ^ 8 → Clear → least_shared 8 P N P' N' ≡ Some (bit_or P P')
+  unfolding least_shared
+  shared_least p p' clear =
+      let w = witness clear in
+      smallest_by shared (2 ^ 8) (Some (bit_or P P')) record {
+        within = or_lt 8 P P' p p';
+        passes = both w.0 w.1;
+        none_below = λ y l. not_passed (shared y) (λ q. omega (arith, l, not_below y q));
+      }
     where
       shared : ℕ → Bool
       shared x = cube_holds P N x && cube_holds P' N' x
-
-      clear : (x : ℕ) → shared x ≡ true → Clear
-      clear x e = shared_clear n n' x (both_left (cube_holds P N x) (cube_holds P' N' x) e) (both_right (cube_holds P N x) (cube_holds P' N' x) e)
 
       not_below : (x : ℕ) → shared x ≡ true → bit_or P P' ≤ x
       not_below x e =
@@ -127,36 +137,39 @@ module _ (P N P' N' : ℕ) where
             (holds_at P' N' x (both_right (cube_holds P N x) (cube_holds P' N' x) e) i h).ones,
           ))
 
-      go : (t : Bool) → eqb (bit_and (bit_or P P') (bit_or N N')) 0 ≡ t → Means (2 ^ 8) shared (cond t (some (bit_or P P')) none)
-      go true e =
-          let w = witness (eqb-true _ _ e) in
-          record {
-            within = or_lt 8 P P' p p';
-            passes = both w.0 w.1;
-            none_below = λ y l. not_passed (shared y) (λ q. omega (arith, l, not_below y q));
-          }
-      go false e = λ y _. not_passed (shared y) (λ q. eqb-false _ _ e (clear y q))
+  -- in one: there is one if no input is asked to be both
+  pub least_masks : P < 2 ^ 8 → N < 2 ^ 8 → P' < 2 ^ 8 → N' < 2 ^ 8
+      → least_shared 8 P N P' N' ≡ cond (eqb (bit_and (bit_or P P') (bit_or N N')) 0) (Some (bit_or P P')) None
+  least_masks p n p' n' = go (eqb (bit_and (bit_or P P') (bit_or N N')) 0) refl
+    where
+      go : (t : Bool) → eqb (bit_and (bit_or P P') (bit_or N N')) 0 ≡ t → least_shared 8 P N P' N' ≡ cond t (Some (bit_or P P')) None
+      go true e = shared_least p p' (eqb-true _ _ e)
+      go false e = shared_none n n' (eqb-false _ _ e)
 
 -- two cubes share none where one of them asks for a 1 and the other for a 0; one number has both questions
-pub opposed_none : (P N P' N' : ℕ) → N < 2 ^ 8 → P' < 2 ^ 8 → N' < 2 ^ 8 → (bit_and (P * 256 + N) (N' * 256 + P') ≡ 0 → ⊥) → least_shared 8 P N P' N' ≡ none
+pub opposed_none : (P N P' N' own other : ℕ) → N < 2 ^ 8 → P' < 2 ^ 8 → N' < 2 ^ 8 → own ≡ P * 256 + N → other ≡ N' * 256 + P'
+    → (bit_and own other ≡ 0 → ⊥) → least_shared 8 P N P' N' ≡ None
 unfolding least_shared
-opposed_none P N P' N' n p' n' asked =
-    smallest_by _ (2 ^ 8) none
-    (λ x _. not_passed _ (λ e. asked (nothing x (both_left (cube_holds P N x) (cube_holds P' N' x) e) (both_right (cube_holds P N x) (cube_holds P' N' x) e))))
+opposed_none P N P' N' own other n p' n' e e' asked =
+    smallest_by _ (2 ^ 8) None
+    (λ x _. not_passed _ (λ h. asked (nothing x (both_left (cube_holds P N x) (cube_holds P' N' x) h) (both_right (cube_holds P N x) (cube_holds P' N' x) h))))
   where
-    nothing : (x : ℕ) → cube_holds P N x ≡ true → cube_holds P' N' x ≡ true → bit_and (P * 256 + N) (N' * 256 + P') ≡ 0
-    nothing x e e' =
-        and_block 8 P N' N P' n p'
-        ∙ ap₂ (λ (a b : ℕ). a * 256 + b) (not_crossed P N P' N' n' x e e') (and_comm N P' ∙ not_crossed P' N' P N n x e' e)
+    nothing : (x : ℕ) → cube_holds P N x ≡ true → cube_holds P' N' x ≡ true → bit_and own other ≡ 0
+    nothing x h h' =
+        ap₂ bit_and e e' ∙ and_block 8 P N' N P' n p'
+        ∙ ap₂ (λ (a b : ℕ). a * 256 + b) (not_crossed P N P' N' n' x h h') (and_comm N P' ∙ not_crossed P' N' P N n x h' h)
 
--- the smallest pattern of two cubes whose masks stand in one number each
-pub least_joined : (own other : ℕ) → own < 2 ^ 16 → other < 2 ^ 16
-    → least_shared 8 (own % 256) (own / 256) (other % 256) (other / 256) ≡ cond (eqb (bit_and (bit_or own other % 256) (bit_or own other / 256)) 0) (some (bit_or own other % 256)) none
-least_joined own other h k =
-    least_masks (own % 256) (own / 256) (other % 256) (other / 256) (omega arith) (omega arith) (omega arith) (omega arith)
-    ∙ ap₂ (λ (P N : ℕ). cond (eqb (bit_and P N) 0) (some P) none) (sym (or_mod own other 8)) (sym (or_shr own other 8))
+-- masks that stand in one number: those of an or of two
+pub or_low : (own other : ℕ) → bit_or own other % 256 ≡ bit_or (own % 256) (other % 256)
+or_low own other = or_mod own other 8
 
--- whose masks are read off again
+pub or_high : (own other : ℕ) → bit_or own other / 256 ≡ bit_or (own / 256) (other / 256)
+or_high own other = or_shr own other 8
+
+-- what shared masks give, whether they stand apart or in one number
+pub ruleset shared = (shared_none, shared_least, or_low, or_high)
+
+-- masks in one number are read off again
 pub least_apart : (P N P' N' own other : ℕ) → P < 2 ^ 8 → P' < 2 ^ 8 → own ≡ N * 256 + P → other ≡ N' * 256 + P'
     → least_shared 8 (own % 256) (own / 256) (other % 256) (other / 256) ≡ least_shared 8 P N P' N'
 least_apart P N P' N' own other p p' e e' =

@@ -2,7 +2,7 @@
 -- masks, P and N, of one byte each, so that it can name inputs 0 to 7. A list of cubes is the bytes that it is written in,
 -- P then N of each cube.
 use Rattle.std.specs.Prelude.{ℕ, ◌+◌, ◌^◌, Bool, false, not, ◌&&◌, ◌||◌, List, [], ◌∷◌, leb}
-use Rattle.std.proofs.Math.Option.{Option}
+use Rattle.std.specs.declared.option.Option.{Option}
 use Rattle.bits.specs.Bits.{bit, has, every, any, count, smallest}
 
 -- input i of pattern x is as the cube P, N asks: 1 if it is in P, 0 if it is in N

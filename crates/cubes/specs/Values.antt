@@ -1,15 +1,15 @@
--- What the code's answers stand for: a pattern that is shared, or none.
-use Rattle.std.specs.Prelude.{ℕ}
-use Rattle.std.proofs.Math.Option.{Option, none, some}
-use Rattle.cubes.specs.declared.Shared.{Shared}
-use Rattle.cubes.specs.declared.Shared.TheVariants.{Nowhere, At}
+-- How the code keeps cubes and patterns: a list as pairs of masks, a pattern that is shared as a number.
+use Rattle.std.specs.Prelude.{ℕ, List, [], ◌∷◌}
+use Rattle.std.specs.declared.option.Option.{Option}
+use Rattle.std.specs.declared.option.Option.TheVariants.{None, Some}
 
--- the cases of the enum
-unfoldable pub pattern_of : Shared → Option ℕ
-pattern_of Nowhere = none
-pattern_of (At x) = some x
+-- the cubes of a list, each as P and N; a byte that is left over belongs to none
+unfoldable pub in_pairs : List ℕ → List (List ℕ)
+in_pairs [] = []
+in_pairs (P ∷ []) = []
+in_pairs (P ∷ N ∷ rest) = (P ∷ N ∷ []) ∷ in_pairs rest
 
--- as a number, 256 for none: the code compares these
+-- a pattern, or 256 for none: the code compares these
 unfoldable pub number_of : Option ℕ → ℕ
-number_of none = 256
-number_of (some x) = x
+number_of None = 256
+number_of (Some x) = x

@@ -2,97 +2,107 @@
 // masks do the same is proved in proofs/.
 #![tactic(auto)]
 
-ghost use Rattle.std.specs.Prelude.{◌≡◌, false, ℕ, ◌+◌, ◌*◌, ◌/◌, ◌%◌, ◌≤◌, ◌<◌, length, get_or};
-ghost use Rattle.std.proofs.Math.Option.{none};
+ghost use Rattle.std.specs.Prelude.{◌≡◌, false, ℕ, ◌+◌, ◌*◌, ◌/◌, ◌%◌, ◌≤◌};
+ghost use Rattle.std.specs.declared.option.Option.TheVariants.{None};
 ghost use Rattle.bits.specs.Bits.{has, lesser};
 ghost use Rattle.cubes.specs.Cubes.{cube_names, cubes_share, least_shared, some_cube, some_holds, least_with, patterns_held, inputs_used};
-ghost use Rattle.cubes.specs.Values.{pattern_of, number_of};
+ghost use Rattle.cubes.specs.Values.{in_pairs, number_of};
 
-// The smallest pattern that is shared, or none.
-#[derive(Clone, Copy)]
-pub enum Shared {
-    Nowhere,
-    At(u8),
+// A cube: the mask of the inputs that it asks to be 1, and of those that it asks to be 0.
+#[derive(Clone, Copy, PartialEq, Eq)]
+pub struct Cube {
+    pub pos: u8,
+    pub neg: u8,
 }
 
-// The smallest pattern that two cubes share. They share one if no input is asked to be both 1 and 0; it has 1 where it is asked to,
-// and else 0.
-pub fn shares(pos: u8, neg: u8, pos2: u8, neg2: u8) -> Shared
-    ensures { pattern_of result ≡ least_shared 8 pos neg pos2 neg2 }
+// The cubes of a list, each as its two masks. A byte that is left over belongs to none.
+#[tactic(auto, using(crate::proofs::Lists::pairs_cut))]
+pub fn each(list: &[u8]) -> &[[u8; 2]]
+    ensures { result.now ≡ in_pairs list.now }
 {
-    let ones = pos | pos2;
-    if ones & (neg | neg2) != 0 {
-        return Shared::Nowhere;
-    }
-    Shared::At(ones)
+    list.as_chunks::<2>().0
 }
 
 // The lesser of two patterns, as far as there are two.
-#[tactic(auto, unfolding(bits::specs::Bits::lesser, crate::specs::Values::pattern_of))]
-pub fn lesser(a: Shared, b: Shared) -> Shared
-    ensures { pattern_of result ≡ lesser (pattern_of a) (pattern_of b) }
+#[tactic(auto, unfolding(bits::specs::Bits::lesser))]
+pub fn lesser(a: Option<u8>, b: Option<u8>) -> Option<u8>
+    ensures { result ≡ lesser a b }
 {
-    match a {
-        Shared::Nowhere => b,
-        Shared::At(x) => match b {
-            Shared::Nowhere => a,
-            Shared::At(y) => {
-                if y < x {
-                    return b;
-                }
-                a
-            }
-        },
+    match (a, b) {
+        (Some(x), Some(y)) => Some(x.min(y)),
+        (Some(x), None) => Some(x),
+        (None, _) => b,
     }
 }
 
-// The smallest pattern that the cube shares with any cube of the list. Most lists share none, and that is seen first.
-pub fn least_with(pos: u8, neg: u8, cubes: &[u8]) -> Shared
-    ensures { pattern_of result ≡ least_with 8 pos neg cubes.now }
-{
-    if !any_open(pos, neg, cubes) {
-        return Shared::Nowhere;
-    }
-    let least = least_number(pos, neg, cubes);
-    if least < 256 {
-        return Shared::At(least as u8);
-    }
-    Shared::Nowhere
-}
-
-// Whether some cube of the list is open to the cube: no input that the one asks to be 1 is asked to be 0 by the other. Where none
-// is, none shares a pattern. This walk and the next have no early end, so that the compiler takes several cubes at once.
-fn any_open(pos: u8, neg: u8, cubes: &[u8]) -> bool
-    ensures { result ≡ false → least_with 8 pos neg cubes.now ≡ none }
-{
-    let opposite = joined(neg, pos);
-    let mut any = false;
-    let mut at = 0;
-    while at + 1 < cubes.len() {
-        any = any | (opposite & cube_at(cubes, at) == 0);
-        at += 2;
-    }
-    any
-}
-
-// The smallest pattern that the cube shares with any cube of the list, as a number.
-fn least_number(pos: u8, neg: u8, cubes: &[u8]) -> u16
-    ensures { result ≡ number_of (least_with 8 pos neg cubes.now) }
-{
-    let own = joined(pos, neg);
-    let mut least = 256u16;
-    let mut at = 0;
-    while at + 1 < cubes.len() {
-        let here = shared_number(own, cube_at(cubes, at));
-        if here < least {
-            least = here;
+impl Cube {
+    // The smallest pattern that two cubes share. They share one if no input is asked to be both 1 and 0; it has 1 where it is
+    // asked to, and else 0.
+    #[tactic(auto, using(crate::proofs::Masks::shared))]
+    pub fn shares(self, other: Cube) -> Option<u8>
+        ensures { result ≡ least_shared 8 self.pos self.neg other.pos other.neg }
+    {
+        let ones = self.pos | other.pos;
+        if ones & (self.neg | other.neg) != 0 {
+            return None;
         }
-        at += 2;
+        Some(ones)
     }
-    least
+
+    // The smallest pattern that the cube shares with any cube of the list. Most lists share none, and that is seen first.
+    #[tactic(auto, using(crate::proofs::Lists::number_found, crate::proofs::Lists::number_none))]
+    pub fn least_with(self, list: &[u8]) -> Option<u8>
+        ensures { result ≡ least_with 8 self.pos self.neg list.now }
+    {
+        if !self.any_open(list) {
+            return None;
+        }
+        let least = self.least_number(list);
+        if least < 256 {
+            return Some(least as u8);
+        }
+        None
+    }
+
+    // Whether some cube of the list is open to the cube: no input that the one asks to be 1 is asked to be 0 by the other. Where
+    // none is, none shares a pattern. This walk and the next have no early end, so that the compiler takes several cubes at once.
+    #[tactic(auto, using(crate::proofs::Lists::walks))]
+    fn any_open(self, list: &[u8]) -> bool
+        ensures { result ≡ false → least_with 8 self.pos self.neg list.now ≡ None }
+    {
+        let opposite = joined(self.neg, self.pos);
+        let mut any = false;
+        for &[pos, neg] in each(list) {
+            any |= opposite & joined(pos, neg) == 0;
+        }
+        any
+    }
+
+    // The smallest pattern that the cube shares with any cube of the list, as a number.
+    #[tactic(auto, using(crate::proofs::Lists::walks))]
+    fn least_number(self, list: &[u8]) -> u16
+        ensures { result ≡ number_of (least_with 8 self.pos self.neg list.now) }
+    {
+        let own = joined(self.pos, self.neg);
+        let mut least = 256u16;
+        for &[pos, neg] in each(list) {
+            least = least.min(shared_number(own, joined(pos, neg)));
+        }
+        least
+    }
+
+    // Whether some cube of the list shares a pattern with the cube.
+    pub fn any_shares(self, list: &[u8]) -> bool
+        ensures { result ≡ some_cube (cubes_share 8 self.pos self.neg) list.now }
+    {
+        each(list)
+            .iter()
+            .any(|&[pos, neg]| self.shares(Cube { pos, neg }).is_some())
+    }
 }
 
 // The smallest pattern that two cubes share, as a number, of their masks as numbers: `shares` on 16 bits.
+#[tactic(auto, using(crate::proofs::Masks::shared), unfolding(crate::specs::Values::number_of))]
 fn shared_number(own: u16, other: u16) -> u16
     ensures { result ≡ number_of (least_shared 8 (own % 256) (own / 256) (other % 256) (other / 256)) }
 {
@@ -103,69 +113,38 @@ fn shared_number(own: u16, other: u16) -> u16
     both % 256
 }
 
-// The masks of the cube at a place of the list as one number. Read in a function of its own, they are one load.
-fn cube_at(cubes: &[u8], at: usize) -> u16
-    requires { at + 1 < length cubes.now }
-    ensures { result ≡ get_or cubes.now (at + 1) 0 * 256 + get_or cubes.now at 0 }
-{
-    joined(cubes[at], cubes[at + 1])
-}
-
 // The masks of a cube as one number, P below N.
 fn joined(pos: u8, neg: u8) -> u16
     ensures { result ≡ neg * 256 + pos }
 {
-    pos as u16 + 256 * neg as u16
-}
-
-// Whether some cube of the list shares a pattern with the cube.
-pub fn any_shares(pos: u8, neg: u8, cubes: &[u8]) -> bool
-    ensures { result ≡ some_cube (cubes_share 8 pos neg) cubes.now }
-{
-    let mut at = 0;
-    while at + 1 < cubes.len() {
-        match shares(pos, neg, cubes[at], cubes[at + 1]) {
-            Shared::Nowhere => {}
-            Shared::At(_) => {
-                return true;
-            }
-        }
-        at += 2;
-    }
-    false
+    u16::from_le_bytes([pos, neg])
 }
 
 // Whether some cube of the list holds pattern x, which is the cube that names every input as x has it.
-pub fn any_holds(cubes: &[u8], x: u8) -> bool
-    ensures { result ≡ some_holds cubes.now x }
+#[tactic(auto, using(crate::proofs::Lists::as_cubes))]
+pub fn any_holds(list: &[u8], x: u8) -> bool
+    ensures { result ≡ some_holds list.now x }
 {
-    any_shares(x, !x, cubes)
+    Cube { pos: x, neg: !x }.any_shares(list)
 }
 
 // The number of patterns of n inputs that some cube of the list holds.
-pub fn patterns(cubes: &[u8], n: u8) -> u32
+pub fn patterns(list: &[u8], n: u8) -> u32
     requires { n ≤ 8 }
-    ensures { result ≡ patterns_held n cubes.now }
+    ensures { result ≡ patterns_held n list.now }
 {
-    let end = 1u32 << n;
-    let mut x = 0u32;
-    let mut held = 0u32;
-    while x < end {
-        held += any_holds(cubes, (x % 256) as u8) as u32;
-        x += 1;
-    }
-    held
+    (0..1u32 << n)
+        .filter(|x| any_holds(list, (*x & 255) as u8))
+        .count() as u32
 }
 
 // The mask of the inputs that some cube of the list names.
-fn names(cubes: &[u8]) -> u8
-    ensures { (i : ℕ) → has result i ≡ some_cube (λ P N. cube_names P N i) cubes.now }
+fn names(list: &[u8]) -> u8
+    ensures { (i : ℕ) → has result i ≡ some_cube (λ P N. cube_names P N i) list.now }
 {
-    let mut mask = 0u8;
-    let mut at = 0;
-    while at + 1 < cubes.len() {
-        mask = mask | cubes[at] | cubes[at + 1];
-        at += 2;
+    let mut mask = 0;
+    for &[pos, neg] in each(list) {
+        mask |= pos | neg;
     }
     mask
 }
@@ -174,5 +153,5 @@ fn names(cubes: &[u8]) -> u8
 pub fn used(on: &[u8], off: &[u8]) -> u32
     ensures { result ≡ inputs_used on.now off.now }
 {
-    u8::count_ones(names(on) | names(off))
+    (names(on) | names(off)).count_ones()
 }

@@ -4,7 +4,8 @@ use Prim.Native.Nat.{ℕ, ◌+◌, ◌≤◌, ◌<◌}
 use mathlib.Core.Path.{◌≡◌, refl, sym, ap, ap₂, ◌∙◌, subst}
 use mathlib.Core.Bool.{true, false, false≢true}
 use mathlib.Core.List.{List}
-use mathlib.Core.Option.{Option, none, some}
+use Rattle.std.specs.declared.option.Option.{Option}
+use Rattle.std.specs.declared.option.Option.TheVariants.{None, Some}
 use mathlib.Core.Logic.{◌⊎◌}
 use native.Mathlib.Nat.{le_trans}
 use native.Mathlib.Omega.{arith}
@@ -55,8 +56,8 @@ unfolding kind_found
 claim_accepted f g ok = go (first_agreeing f g) refl
   where
     go : (o : Option (List ℕ)) → first_agreeing f g ≡ o → checking f g (claim_for f g) ≡ accepted (kind_found o) (length (claim_for f g))
-    go (some v) e = match_accepted f g _ ok (claim_match f g v e)
-    go none e = refusal_accepted f g _ ok (claim_refusal f g ok e)
+    go (Some v) e = match_accepted f g _ ok (claim_match f g v e)
+    go None e = refusal_accepted f g _ ok (claim_refusal f g ok e)
 
 checker_accepts : (κs : Lfts 3) (a : Dens κs check_kinds.ps) (r : (res_t check_kinds.r κs).Denot) (s : AtExit (ended_of 3 check_kinds.ps check_kinds.r) κs)
     → check.Post κs a r s → (f g : List ℕ) → a.0.now ≡ f → a.1.0.now ≡ g → a.1.1.0.now ≡ claim_for f g → Accepted f g
@@ -121,8 +122,8 @@ module _ (κs : Lfts 3) (a : Dens κs find_kinds.ps) (r : (res_t find_kinds.r κ
     find_agreeing v whole agree h = go (first_agreeing f g) refl
       where
         go : (o : Option (List ℕ)) → first_agreeing f g ≡ o → r ≡ accepted 1 (4 + inputs g)
-        go (some u) e = let long = match_length f g claim (claim_match f g u e) in find_fits (omega arith) ∙ ap₂ accepted (ap kind_found e) long
-        go none e = absurd (false≢true (sym (none_agree f g e v whole) ∙ agree))
+        go (Some u) e = let long = match_length f g claim (claim_match f g u e) in find_fits (omega arith) ∙ ap₂ accepted (ap kind_found e) long
+        go None e = absurd (false≢true (sym (none_agree f g e v whole) ∙ agree))
 
   module _ (e : r.code ≡ 0) where
     read : (both_read f g).code ≡ 0

@@ -5,19 +5,22 @@ use Prim.Native.Nat.{ℕ, ◌+◌, ◌%◌, ◌^◌, ◌≤◌, ◌<◌}
 use mathlib.Core.Path.{◌≡◌, refl, sym, ap, ap₂, ◌∙◌, subst}
 use mathlib.Core.Bool.{Bool, true, ◌&&◌, ◌||◌, and-or_distrib_right}
 use mathlib.Core.List.{List, []}
-use mathlib.Core.Option.{Option, none, some}
+use Rattle.std.specs.declared.option.Option.{Option}
+use Rattle.std.specs.declared.option.Option.TheVariants.{None, Some}
 use native.Mathlib.Omega.{arith}
-use lib.ListN.{length, get_or, drop}
+use lib.ListN.{length, get_or, take}
+use Rattle.std.specs.List.{list_any}
+use Rattle.std.proofs.lemmas.Grind.{common_steps}
+use Rattle.std.proofs.lemmas.List.Folds.{list_any_more}
 use Rattle.bits.specs.Bits.{smallest, lesser}
 use Rattle.bits.proofs.Tests.{both_left}
 use Rattle.bits.proofs.Bit.{bits_le}
-use Rattle.bits.proofs.Below.{any_same, any_never}
+use Rattle.bits.proofs.Below.{any_never}
 use Rattle.bits.proofs.Smallest.{Means, smallest_means, smallest_none, smallest_same, smallest_or, smallest_narrow, lesser_none, lesser_assoc}
-use Rattle.cubes.specs.declared.Shared.{Shared}
 use Rattle.cubes.specs.Cubes.{cube_holds, some_holds, least_with}
-use Rattle.cubes.specs.Values.{pattern_of}
+use Rattle.cubes.specs.Values.{in_pairs}
 use Rattle.cubes.proofs.Masks.{holds_at, holds_low}
-use Rattle.cubes.proofs.Lists.{each_map, some_same, some_step, some_end}
+use Rattle.cubes.proofs.Lists.{each_map, some_same, of_pair, some_pairs}
 use Rattle.rules.specs.Rules.{follows}
 use Rattle.records.specs.Records.{inputs, Accepted}
 use Rattle.records.proofs.Frame.{few_inputs}
@@ -25,65 +28,67 @@ use Rattle.records.proofs.Cubes.{CleanList}
 use Rattle.wirings.specs.Wirings.{straight, read_at, disagreement}
 use Rattle.wirings.specs.Pairs.{asks_one, asks_zero, carried_pos, carried_neg, side, against}
 use Rattle.wirings.proofs.Agreement.{carried_holds, landed_lt, placed_byte, clean_side, both_hold, disagree_is}
+use Rattle.partial.specs.declared.Masks.{Masks}
+use Rattle.partial.specs.Partial.{carried, prefix, Formed}
+use Rattle.partial.proofs.Standing.{stands_depth}
 use Rattle.disagree.specs.Meeting.{some_carried, meeting}
 
 -- ---- what a cube shares is no smaller than the inputs that it asks to be 1, so a least so far that is no greater than they stays
 
-pub lesser_stays : (P N x : ℕ) (l : List ℕ) → P < 2 ^ 8 → x ≤ P → some x ≡ lesser (some x) (least_with 8 P N l)
+pub lesser_stays : (P N x : ℕ) (l : List ℕ) → P < 2 ^ 8 → x ≤ P → Some x ≡ lesser (Some x) (least_with 8 P N l)
 unfolding least_with lesser
 lesser_stays P N x l p h = go (smallest (2 ^ 8) shared) (smallest_means shared (2 ^ 8))
   where
     shared : ℕ → Bool
     shared y = cube_holds P N y && some_holds l y
 
-    go : (o : Option ℕ) → Means (2 ^ 8) shared o → some x ≡ lesser (some x) o
-    go none m = refl
-    go (some y) m =
+    go : (o : Option ℕ) → Means (2 ^ 8) shared o → Some x ≡ lesser (Some x) o
+    go None m = refl
+    go (Some y) m =
         let above = bits_le 8 P y p (λ i k. (holds_at P N y (both_left (cube_holds P N y) (some_holds l y) m.passes) i k).ones) in
-        ap some (omega arith)
+        ap Some (omega arith)
 
 -- ---- the walk over the list of f
 
-module _ (w l m : List ℕ) where
-  abbrev C : ℕ → ℕ
-  C at = carried_pos w (get_or l at 0) (get_or l (at + 1) 0)
+module _ (w m : List ℕ) where
+  -- the smallest pattern that some of these cubes, carried over, shares with a cube of the list of g
+  unfoldable pub met_by : List (List ℕ) → Option ℕ
+  met_by ps = smallest (2 ^ 8) (λ y. list_any (of_pair (λ P N. cube_holds (carried_pos w P N) (carried_neg w P N) y)) ps && some_holds m y)
 
-  abbrev D : ℕ → ℕ
-  D at = carried_neg w (get_or l at 0) (get_or l (at + 1) 0)
+  pub met_pairs : (l : List ℕ) → meeting w l m ≡ met_by (in_pairs l)
+  unfolding meeting met_by
+  met_pairs l =
+      smallest_same _ _ (2 ^ 8) (λ y _. ap (λ (t : Bool). t && some_holds m y) (some_pairs (λ P N. cube_holds (carried_pos w P N) (carried_neg w P N) y) l))
 
-  meeting_step : (at : ℕ) → at + 1 < length l → meeting w (drop at l) m ≡ lesser (least_with 8 (C at) (D at) m) (meeting w (drop (at + 2) l) m)
-  unfolding meeting least_with
-  meeting_step at h =
-      smallest_same _ _ (2 ^ 8) (λ y _.
-      ap (λ (t : Bool). t && some_holds m y) (some_step (λ P N. cube_holds (carried_pos w P N) (carried_neg w P N) y) l at h)
-      ∙ and-or_distrib_right (cube_holds (C at) (D at) y) (some_carried w (drop (at + 2) l) y) (some_holds m y))
-      ∙ smallest_or (λ y. cube_holds (C at) (D at) y && some_holds m y) (λ y. some_carried w (drop (at + 2) l) y && some_holds m y) (2 ^ 8)
+  pub met_none : met_by [] ≡ None
+  unfolding met_by
+  met_none = smallest_none _ (2 ^ 8) (any_never (2 ^ 8))
 
-  meeting_end : (at : ℕ) → length l ≤ at + 1 → meeting w (drop at l) m ≡ none
-  unfolding meeting
-  meeting_end at h =
-      smallest_none _ (2 ^ 8)
-      (any_same _ _ (2 ^ 8) (λ y _. ap (λ (t : Bool). t && some_holds m y) (some_end (λ P N. cube_holds (carried_pos w P N) (carried_neg w P N) y) l at h)) ∙ any_never (2 ^ 8))
+  module _ (ps : List (List ℕ)) (i : ℕ) (d : List ℕ) (h : i < length ps) where
+    abbrev P : ℕ
+    P = get_or (get_or ps i d) 0 0
 
-  -- with what remains, the least so far is the lesser of what was known at the start and of the whole
-  module _ (known : Shared) where
-    pub record MeetingWalk (least : Shared) (at : ℕ) : Type 0 where
-      pub within : at ≤ length l
-      pub rest : lesser (pattern_of least) (meeting w (drop at l) m) ≡ lesser (pattern_of known) (meeting w l m)
+    abbrev N : ℕ
+    N = get_or (get_or ps i d) 1 0
 
-    pub meeting_starts : MeetingWalk known 0
-    meeting_starts = record { within = omega arith; rest = refl }
+    -- one pair more
+    met_more : met_by (take (i + 1) ps) ≡ lesser (met_by (take i ps)) (least_with 8 (carried_pos w P N) (carried_neg w P N) m)
+    unfolding met_by least_with
+    met_more =
+        let holds : ℕ → List ℕ → Bool = λ y. of_pair (λ P N. cube_holds (carried_pos w P N) (carried_neg w P N) y) in
+        smallest_same _ _ (2 ^ 8)
+        (λ y _.
+        ap (λ (t : Bool). t && some_holds m y) (list_any_more (holds y) ps i d h)
+        ∙ and-or_distrib_right (list_any (holds y) (take i ps)) (holds y (get_or ps i d)) (some_holds m y))
+        ∙ smallest_or (λ y. list_any (holds y) (take i ps) && some_holds m y) (λ y. holds y (get_or ps i d) && some_holds m y) (2 ^ 8)
 
-    module _ (least : Shared) (at : ℕ) (k : MeetingWalk least at) where
-      pub meeting_goes : at + 1 < length l → (next : Shared) → pattern_of next ≡ lesser (pattern_of least) (least_with 8 (C at) (D at) m) → MeetingWalk next (at + 2)
-      meeting_goes h next e = record {
-        within = omega arith;
-        rest = ap (λ (o : Option ℕ). lesser o (meeting w (drop (at + 2) l) m)) e
-            ∙ lesser_assoc (pattern_of least) _ _ ∙ ap (lesser (pattern_of least)) (sym (meeting_step at h)) ∙ k.rest;
-      }
+    pub known_more : (known : Option ℕ) (n : ℕ)
+        → lesser known (met_by (take (i + 1) ps)) ≡ lesser (lesser known (met_by (take i ps))) (least_with 8 (carried n w P N).pos (carried n w P N).neg m)
+    unfolding carried
+    known_more known n = ap (lesser known) met_more ∙ sym (lesser_assoc known _ _)
 
-      pub meeting_ends : length l ≤ at + 1 → pattern_of least ≡ lesser (pattern_of known) (meeting w l m)
-      meeting_ends h = sym (lesser_none (pattern_of least)) ∙ ap (lesser (pattern_of least)) (sym (meeting_end at h)) ∙ k.rest
+-- the walk at its start, with a pair more, and at its end
+pub ruleset walk = (common_steps, lesser_none, met_none, known_more, met_pairs)
 
 -- ---- both lists of accepted records
 
@@ -124,3 +129,13 @@ module _ (q : ℕ) (f g : List ℕ) (ok : Accepted f g) (w : List ℕ) (allowed 
       smallest_same _ _ (2 ^ n) (λ y _. disagree_is q f g (read_at w y) y ∙ ap₂ ◌||◌ (met_is 0 y) (met_is 1 y))
       ∙ sym (smallest_narrow (λ y. met 0 y || met 1 y) n 8 small (λ y. ap₂ ◌||◌ (met_low 0 y) (met_low 1 y)))
       ∙ smallest_or (met 0) (met 1) (2 ^ 8)
+
+-- ---- as the code meets it, of a whole wiring by value
+
+module _ (r : Masks) (s : Formed r) (q : ℕ) (f g : List ℕ) (ok : Accepted f g) where
+  pub by_lists : r.depth ≡ r.n → r.n ≡ inputs g
+      → disagreement q f g (prefix r)
+      ≡ lesser (meeting (prefix r) (side 0 f) (side (against q 0) g)) (meeting (prefix r) (side 1 f) (side (against q 1) g))
+  by_lists whole of_g =
+      disagreement_met q f g ok (prefix r) (subst (λ (n : ℕ). follows (straight n) [] (prefix r) ≡ true) of_g s.allowed)
+      (sym (stands_depth r r.n (prefix r) s) ∙ whole ∙ of_g)

@@ -1,6 +1,6 @@
 -- Where two lists of cubes meet through a wiring, on patterns of g.
 use Rattle.std.specs.Prelude.{ℕ, ◌^◌, Bool, ◌&&◌, List}
-use Rattle.std.proofs.Math.Option.{Option}
+use Rattle.std.specs.declared.option.Option.{Option}
 use Rattle.bits.specs.Bits.{smallest}
 use Rattle.cubes.specs.Cubes.{cube_holds, some_cube, some_holds}
 use Rattle.wirings.specs.Pairs.{carried_pos, carried_neg}

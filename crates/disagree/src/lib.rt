@@ -4,67 +4,65 @@
 
 ghost use Rattle.std.specs.Prelude.{◌≡◌};
 ghost use Rattle.bits.specs.Bits.{lesser};
-ghost use Rattle.records.specs.Records.{inputs, Accepted};
+ghost use Rattle.records.specs.Records.{inputs};
 ghost use Rattle.wirings.specs.Wirings.{disagreement};
 ghost use Rattle.cubes.specs.Cubes.{least_with};
-ghost use Rattle.cubes.specs.Values.{pattern_of};
-ghost use Rattle.partial.specs.Partial.{prefix, Formed};
+ghost use Rattle.partial.specs.Partial.{prefix};
 ghost use Rattle.disagree.specs.Meeting.{meeting};
 
-use cubes::Shared;
+use cubes::Cube;
 use partial::Wiring;
+use records::Functions;
 
 // The lesser of the least so far and the smallest pattern that the cube shares with any cube of the list. What it shares has 1
 // wherever the cube asks for it, and is no smaller than `pos`: a least that is no greater stays, and the list is left out.
-fn lesser_with(least: Shared, pos: u8, neg: u8, cubes: &[u8]) -> Shared
-    ensures { pattern_of result ≡ lesser (pattern_of least) (least_with 8 pos neg cubes.now) }
+#[tactic(auto, using(crate::proofs::Lists::lesser_stays), unfolding(bits::specs::Bits::lesser))]
+fn lesser_with(least: Option<u8>, cube: Cube, list: &[u8]) -> Option<u8>
+    ensures { result ≡ lesser least (least_with 8 cube.pos cube.neg list.now) }
 {
     match least {
-        Shared::Nowhere => cubes::least_with(pos, neg, cubes),
-        Shared::At(x) => {
-            if x <= pos {
-                return least;
-            }
-            cubes::lesser(least, cubes::least_with(pos, neg, cubes))
-        }
+        None => cube.least_with(list),
+        Some(x) if x <= cube.pos => least,
+        Some(_) => cubes::lesser(least, cube.least_with(list)),
     }
 }
 
 // The lesser of what is known and the smallest pattern that a cube of the one list, carried over, shares with a cube of the
 // other.
-fn meeting(known: Shared, w: Wiring, ours: &[u8], theirs: &[u8]) -> Shared
-    requires { Formed w }
-    ensures { pattern_of result ≡ lesser (pattern_of known) (meeting (prefix w) ours.now theirs.now) }
+#[tactic(auto, using(crate::proofs::Lists::walk))]
+fn meeting(known: Option<u8>, w: Wiring, ours: &[u8], theirs: &[u8]) -> Option<u8>
+    ensures { result ≡ lesser known (meeting (prefix w.masks) ours.now theirs.now) }
 {
     let mut least = known;
-    let mut at = 0;
-    while at + 1 < ours.len() {
-        let one = w.carry(ours[at], ours[at + 1]);
-        least = lesser_with(least, one.pos, one.neg, theirs);
-        at += 2;
+    for &[pos, neg] in cubes::each(ours) {
+        let one = w.carry(Cube { pos, neg });
+        let carried = Cube {
+            pos: one.pos,
+            neg: one.neg,
+        };
+        least = lesser_with(least, carried, theirs);
     }
     least
 }
 
 // The smallest pattern of g at which f and g disagree under a whole wiring and the phase q: on against off and off against on, or
 // on against on and off against off.
-pub fn disagreement(w: Wiring, f: &[u8], g: &[u8], q: u8) -> Shared
-    requires formed { Formed w }
-    requires depth_value { w.depth ≡ w.n }
-    requires n_value { w.n ≡ inputs g.now }
-    requires accepted { Accepted f.now g.now }
-    ensures { pattern_of result ≡ disagreement q f.now g.now (prefix w) }
+#[tactic(auto, using(crate::proofs::Lists::by_lists), unfolding(bits::specs::Bits::lesser))]
+pub fn disagreement(w: Wiring, both: Functions, q: u8) -> Option<u8>
+    requires depth_value { w.masks.depth ≡ w.masks.n }
+    requires n_value { w.masks.n ≡ inputs both.g.bytes.now }
+    ensures { result ≡ disagreement q both.entry.f.bytes.now both.entry.g.bytes.now (prefix w.masks) }
 {
     let on = meeting(
-        Shared::Nowhere,
+        None,
         w,
-        partial::side(f, 0),
-        partial::side(g, partial::against(q, 0)),
+        partial::side(both.f, 0),
+        partial::side(both.g, partial::against(q, 0)),
     );
     meeting(
         on,
         w,
-        partial::side(f, 1),
-        partial::side(g, partial::against(q, 1)),
+        partial::side(both.f, 1),
+        partial::side(both.g, partial::against(q, 1)),
     )
 }

@@ -10,6 +10,7 @@ ghost use Rattle.matcher.specs.Matching.{matching, claim_for};
 ghost use Rattle.writer.specs.Writing.{writing, record_bytes};
 ghost use Rattle.tables.specs.Tables.{table_reading, record_of, table_writing, table_of};
 
+#[tactic(auto, using(matcher::proofs::Exact::matching_place))]
 pub fn zap_match(f: &[u8], g: &[u8], out: &mut [u8]) -> u64
     ensures value { result ≡ packed (matching f.now g.now (length out.old)) }
     ensures tells { Tells (matching f.now g.now (length out.old)) result }
@@ -18,6 +19,7 @@ pub fn zap_match(f: &[u8], g: &[u8], out: &mut [u8]) -> u64
     answers::pack(matcher::find(f, g, out))
 }
 
+#[tactic(auto, using(checker::proofs::Places::checking_place))]
 pub fn zap_check(f: &[u8], g: &[u8], claim: &[u8]) -> u64
     ensures value { result ≡ packed (checking f.now g.now claim.now) }
     ensures tells { Tells (checking f.now g.now claim.now) result }
@@ -26,6 +28,7 @@ pub fn zap_check(f: &[u8], g: &[u8], claim: &[u8]) -> u64
 }
 
 // The record's on patterns, off patterns and inputs in use, in this order, at the start of `figures`, if it has room for three.
+#[tactic(auto, using(records::proofs::Places::summing_place))]
 pub fn zap_summary(f: &[u8], figures: &mut [u64]) -> u64
     ensures leaves { Leaves (packed (summing f.now).answer) (figures_of (summing f.now)) figures.old figures.new result }
     ensures tells { Tells (summing f.now).answer result }
@@ -57,6 +60,7 @@ pub fn zap_read_table(text: &[u8], out: &mut [u8]) -> u64
     answers::tell(tables::read_table(text, out))
 }
 
+#[tactic(auto, using(tables::proofs::Places::table_writing_place))]
 pub fn zap_write_table(record: &[u8], out: &mut [u8]) -> u64
     ensures value { result ≡ packed (table_writing «record».now (length out.old)) }
     ensures tells { Tells (table_writing «record».now (length out.old)) result }

@@ -10,7 +10,8 @@ use std::io::{Read, Write};
 use std::process::ExitCode;
 use std::{fmt, io, str};
 
-// Reads until the buffer is full, the input ends or a read fails, and returns how many bytes stand at the buffer's start.
+// Reads until the buffer is full, the input ends or a read fails, and returns how many bytes stand at the buffer's start. The reader
+// says how far each turn comes, so there is nothing for an iterator to go over.
 pub fn read_whole<R: Read>(reader: &mut R, buf: &mut [u8]) -> io::Result<usize>
     ensures ok { ReadsAtMost result buf.new }
     ensures bytes { IfOk result (λ n. Consumes (R.remaining reader.old) (R.remaining reader.new) (take n buf.new)) }

@@ -18,6 +18,15 @@ use Rattle.lines.specs.Lines.{hex, answer_line, text}
 -- ---- an answer's line
 
 -- the numbers of an answer: bytes, but for a place of 64 bits
+-- a byte has at most three digits, a place at most twenty
+pub byte_digits : (x : ℕ) → x < 2 ^ 8 → length (decimal x) ≤ 3
+byte_digits x h = decimal_most 2 x (omega (arith, h))
+
+pub place_digits_most : (x : ℕ) → x < 2 ^ 64 → length (decimal x) ≤ 20
+place_digits_most x h = decimal_most 19 x (omega (arith, h))
+
+pub ruleset digits_most_by = (byte_digits, place_digits_most)
+
 pub record Digits (a : Answer) : Type 0 where
   pub code_digits : length (decimal a.code) ≤ 3
   pub kind_digits : length (decimal a.kind) ≤ 3

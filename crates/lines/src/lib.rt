@@ -15,15 +15,10 @@ use answers::Answer;
 fn cut(input: &[u8]) -> usize
     ensures { result ≡ min (record_end input.now) (length input.now) }
 {
-    let len = input.len();
-    if len < 5 {
-        return len;
+    if input.len() < 5 {
+        return input.len();
     }
-    let end = records::record_end(input);
-    if len < end {
-        return len;
-    }
-    end
+    records::record_end(input).min(input.len())
 }
 
 // The first record of the input, and what follows it, as parts of the input.
@@ -42,6 +37,7 @@ fn what_follows(input: &[u8]) -> &[u8]
 }
 
 // The line of an answer at the buffer's start; 37 bytes hold the longest, four numbers of three digits and one of twenty.
+#[tactic(auto, using(crate::proofs::Texts::digits_most_by))]
 fn put_answer(answer: Answer, out: &mut [u8]) -> usize
     requires { 37 ≤ length out.old }
     ensures upper_bound { result ≤ 37 }
@@ -59,10 +55,7 @@ fn put_answer(answer: Answer, out: &mut [u8]) -> usize
 fn gap(i: usize, count: usize) -> u8
     ensures { result ≡ cond (ltb i count) 32 10 }
 {
-    if i < count {
-        return b' ';
-    }
-    b'\n'
+    if i < count { b' ' } else { b'\n' }
 }
 
 // The line of the bytes in hex, from `start` on: each byte is two digits and a blank, the last two digits and LF.
@@ -70,15 +63,12 @@ fn put_hex(bytes: &[u8], out: &mut [u8], start: usize)
     requires { start + length (line (map hex bytes.now)) ≤ length out.old }
     ensures { out.new ≡ sets out.old start (line (map hex bytes.now)) }
 {
-    let mut i = 0;
     let mut at = start;
-    while i < bytes.len() {
-        let b = bytes[i];
-        i += 1;
+    for (i, &b) in bytes.iter().enumerate() {
         let word = [
             words::digit(b / 16),
             words::digit(b % 16),
-            gap(i, bytes.len()),
+            gap(i + 1, bytes.len()),
         ];
         answers::put(out, at, &word);
         at += 3;
@@ -102,21 +92,11 @@ fn put_text(answer: Answer, claim: &[u8], out: &mut [u8]) -> usize
     needed
 }
 
-// What the match program lends.
-fn lent() -> [u8; 4096]
-    ensures { 4096 ≡ length result }
-{
-    [0; 4096]
-}
-
 // How many bytes of the lent buffer are shown: the claim, if code is 0.
 fn shown(answer: Answer) -> usize
     ensures { result ≡ cond (eqb answer.code 0) answer.place 0 }
 {
-    if answer.code == 0 {
-        return answer.place;
-    }
-    0
+    if answer.code == 0 { answer.place } else { 0 }
 }
 
 // What the match program prints for its input, if it fits, and the length of it, which is never above 37 + 3·4,096.
@@ -126,7 +106,7 @@ pub fn match_lines(input: &[u8], out: &mut [u8]) -> usize
 {
     let f = this_record(input);
     let g = this_record(what_follows(input));
-    let mut claim = lent();
+    let mut claim = answers::room::<4096>();
     let answer = matcher::find(f, g, &mut claim);
     let len = shown(answer);
     put_text(answer, &claim[..len], out)

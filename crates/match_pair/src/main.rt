@@ -13,36 +13,23 @@ use input::Failure;
 use std::io::{Read, Write};
 use std::process::ExitCode;
 
-// Room for the input: two records never take more than 2,050 bytes, and what follows them is ignored (`match_enough`).
-fn two_records() -> [u8; 2050]
-    ensures { 2050 ≡ length result }
-{
-    [0; 2050]
-}
+// Room for the input: two records never take more bytes, and what follows them is ignored (`match_enough`).
+const INPUT: usize = 2050;
 
 // Room for the text, which is never longer.
-fn two_lines() -> [u8; 12325]
-    ensures { 12325 ≡ length result }
-{
-    [0; 12325]
-}
+const TEXT: usize = 12325;
 
-// Reads f and g, and writes the answer and the claim.
+// Reads f and g, and writes the answer and the claim. The other program reads and writes alike; one function
+// for both would need a contract over the text that it is given to make, longer than both bodies.
 fn answer<R: Read, W: Write>(reader: &mut R, out: &mut W) -> Result<(), Failure>
     ensures printed { OnOk result (IfSome (R.remaining reader.old) (λ input. Bytes input → Appends (W.contents out.old) (W.contents out.new) (match_lines input))) }
     ensures silent { IfErr result (λ e. IsInput e → Keeps (W.contents out.old) (W.contents out.new)) }
 {
-    let mut input = two_records();
-    let got = match input::read_whole(reader, &mut input) {
-        Ok(got) => got,
-        Err(e) => return Err(Failure::Input(e)),
-    };
-    let mut text = two_lines();
+    let mut input = answers::room::<INPUT>();
+    let got = input::read_whole(reader, &mut input).map_err(Failure::Input)?;
+    let mut text = answers::room::<TEXT>();
     let len = lines::match_lines(&input[..got], &mut text);
-    match out.write_all(&text[..len]) {
-        Ok(()) => Ok(()),
-        Err(e) => Err(Failure::Output(e)),
-    }
+    out.write_all(&text[..len]).map_err(Failure::Output)
 }
 
 fn main(rt: HostRuntime) -> ExitCode {

@@ -4,7 +4,8 @@ use Prim.Native.Nat.{ℕ, ◌+◌, ◌≤◌, ◌<◌}
 use mathlib.Core.Path.{◌≡◌, refl, ap}
 use mathlib.Core.Bool.{true, false}
 use mathlib.Core.List.{List, [], ◌∷◌}
-use mathlib.Core.Option.{Option, none, some}
+use Rattle.std.specs.declared.option.Option.{Option}
+use Rattle.std.specs.declared.option.Option.TheVariants.{None, Some}
 use mathlib.Core.Logic.{◌⊎◌, inl, inr}
 use native.Mathlib.Nat.{le_trans}
 use native.Mathlib.Omega.{arith}
@@ -32,13 +33,13 @@ module _ (f g : List ℕ) where
   -- ---- the first agreeing wiring
 
   -- what is found is a wiring that agrees, and no earlier one does
-  pub first_is : (v : List ℕ) → first_agreeing f g ≡ some v → (is_wiring (inputs g) v ≡ true) × (agreeing f g v ≡ true) × AfterNone (agreeing f g) v (wirings (inputs g))
+  pub first_is : (v : List ℕ) → first_agreeing f g ≡ Some v → (is_wiring (inputs g) v ≡ true) × (agreeing f g v ≡ true) × AfterNone (agreeing f g) v (wirings (inputs g))
   unfolding first_agreeing
   first_is v e =
       let x = first_found (agreeing f g) v (wirings (inputs g)) e in
       (in_wiring (inputs g) v x.0, x.1, first_after (agreeing f g) v (wirings (inputs g)) e)
 
-  module _ (e : first_agreeing f g ≡ none) where
+  module _ (e : first_agreeing f g ≡ None) where
     -- where nothing is found, no wiring agrees
     pub none_agree : (v : List ℕ) → is_wiring (inputs g) v ≡ true → agreeing f g v ≡ false
     unfolding first_agreeing
@@ -53,11 +54,11 @@ module _ (f g : List ℕ) where
   -- ---- the claim
 
   -- a match where a wiring was found, and a refusal by the rules where none was
-  pub claim_match : (v : List ℕ) → first_agreeing f g ≡ some v → IsMatch f g (claim_for f g)
+  pub claim_match : (v : List ℕ) → first_agreeing f g ≡ Some v → IsMatch f g (claim_for f g)
   unfolding claim_of
   claim_match v e = let x = first_is v e in record { wiring = v; whole = x.0; agrees = x.1; bytes = ap (claim_of f g) e }
 
-  pub claim_refusal : Accepted f g → first_agreeing f g ≡ none → IsRefusal f g (claim_for f g)
+  pub claim_refusal : Accepted f g → first_agreeing f g ≡ None → IsRefusal f g (claim_for f g)
   unfolding claim_of
   claim_refusal ok e = record {
     tree₀ = own_tree (inputs g) 0 f g [];
@@ -77,26 +78,26 @@ module _ (f g : List ℕ) where
   claim_most few = go (first_agreeing f g) refl
     where
       go : (o : Option (List ℕ)) → first_agreeing f g ≡ o → length (claim_of f g o) ≤ 75323621
-      go (some v) e = omega (arith, match_length f g (claim_for f g) (claim_match v e), ap (λ (o : Option (List ℕ)). length (claim_of f g o)) e)
-      go none e = omega (arith, refusal_parts, node_most (inputs g) 0 f g [] few refl, node_most (inputs g) 1 f g [] few refl)
+      go (Some v) e = omega (arith, match_length f g (claim_for f g) (claim_match v e), ap (λ (o : Option (List ℕ)). length (claim_of f g o)) e)
+      go None e = omega (arith, refusal_parts, node_most (inputs g) 0 f g [] few refl, node_most (inputs g) 1 f g [] few refl)
 
 -- ---- the whole answer
 
 -- a match is of kind 1, a refusal of kind 2
-pub kind_match : (o : Option (List ℕ)) → kind_found o ≡ 1 → (v : List ℕ) × (o ≡ some v)
+pub kind_match : (o : Option (List ℕ)) → kind_found o ≡ 1 → (v : List ℕ) × (o ≡ Some v)
 unfolding kind_found
-kind_match (some v) e = (v, refl)
-kind_match none e = absurd (omega (arith, e))
+kind_match (Some v) e = (v, refl)
+kind_match None e = absurd (omega (arith, e))
 
-pub kind_refusal : (o : Option (List ℕ)) → kind_found o ≡ 2 → o ≡ none
+pub kind_refusal : (o : Option (List ℕ)) → kind_found o ≡ 2 → o ≡ None
 unfolding kind_found
-kind_refusal (some v) e = absurd (omega (arith, e))
-kind_refusal none e = refl
+kind_refusal (Some v) e = absurd (omega (arith, e))
+kind_refusal None e = refl
 
 pub kind_either : (o : Option (List ℕ)) → (kind_found o ≡ 1) ⊎ (kind_found o ≡ 2)
 unfolding kind_found
-kind_either (some v) = inl refl
-kind_either none = inr refl
+kind_either (Some v) = inl refl
+kind_either None = inr refl
 
 module _ (f g : List ℕ) (room : ℕ) where
   -- where both functions are read, room is all that is asked for

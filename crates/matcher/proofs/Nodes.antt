@@ -3,9 +3,10 @@
 -- its tree is FF and the trees of the choices.
 use Prim.Native.Nat.{ℕ, zero, suc, ◌+◌, ◌-◌, ◌*◌, ◌≤◌, ◌<◌}
 use mathlib.Core.Path.{◌≡◌, refl, sym, ap, ◌∙◌, subst, fun_ext}
-use mathlib.Core.Bool.{Bool, true, false, cond}
+use mathlib.Core.Bool.{Bool, true, cond}
 use mathlib.Core.List.{List, [], ◌∷◌, ◌++◌}
-use mathlib.Core.Option.{Option, none, some}
+use Rattle.std.specs.declared.option.Option.{Option}
+use Rattle.std.specs.declared.option.Option.TheVariants.{None, Some}
 use mathlib.Core.Logic.{⊎_elim}
 use native.Mathlib.Nat.{le_trans, eq-or-lt_of_le}
 use native.Mathlib.Omega.{arith}
@@ -19,12 +20,12 @@ use Rattle.wirings.specs.Wirings.{straight, choice_at, agrees}
 use Rattle.wirings.specs.Pairs.{Pair, first_dead}
 use Rattle.wirings.proofs.Choices.{free_number, offered}
 use Rattle.wirings.proofs.Death.{some_dead, found_dead, first_dead_none, death}
-use Rattle.partial.specs.declared.Wiring.{Wiring}
-use Rattle.partial.specs.declared.Found.{Found}
+use Rattle.partial.specs.declared.Masks.{Masks}
+use Rattle.partial.specs.declared.Pair.{Pair as PairFound}
 use Rattle.partial.specs.Partial.{StandsFor, Formed, prefix, offer_from, found}
 use Rattle.partial.proofs.Standing.{stands_as, placed_within}
 use Rattle.partial.proofs.Steps.{Next, takes}
-use Rattle.partial.proofs.Rows.{found_some, found_none, found_as}
+use Rattle.partial.proofs.Rows.{found_some, found_none}
 use Rattle.claims.specs.Trees.{Tree, end, tree_bytes, trees_bytes, closed_by, tree_each, own, longest_tree}
 use Rattle.claims.specs.Claims.{own_tree}
 use Rattle.claims.proofs.Trees.{longest_grows}
@@ -44,7 +45,7 @@ module _ (n q : ℕ) (f g w : List ℕ) where
   first_among l = first_some (λ b. first_from n q f g (w adding b)) l
 
   -- a dead pair closes the node
-  pub closed : (p : Pair) → first_dead n q f g w ≡ some p → node_bytes ≡ p.0 ∷ p.1 ∷ p.2 ∷ []
+  pub closed : (p : Pair) → first_dead n q f g w ≡ Some p → node_bytes ≡ p.0 ∷ p.1 ∷ p.2 ∷ []
   unfolding own_tree own closed_by tree_bytes
   closed p e = go (n - length w)
     where
@@ -68,7 +69,7 @@ module _ (n q : ℕ) (f g w : List ℕ) where
         empty (b ∷ l) e = absurd (omega (arith, e))
 
     -- without one it is split
-    pub opened : first_dead n q f g w ≡ none → node_bytes ≡ 0xFF ∷ branches (offered n w 0)
+    pub opened : first_dead n q f g w ≡ None → node_bytes ≡ 0xFF ∷ branches (offered n w 0)
     unfolding own_tree own closed_by tree_bytes tree_each offered
     opened e = ⊎_elim at_end further (eq-or-lt_of_le within)
       where
@@ -98,23 +99,26 @@ module _ (n q : ℕ) (f g w : List ℕ) where
         let from : ℕ → List ℕ → Option (List ℕ) = λ k w. first (agrees q f g) (completions (straight n) k w) in
         ap (λ (k : ℕ). from k w) left
         ∙ first_flat (agrees q f g) (λ b. completions (straight n) k (w adding b)) (next (straight n) w)
-        ∙ ap (λ (t : ℕ → Option (List ℕ)). first_some t (next (straight n) w)) (fun_ext (λ b. ap (λ (m : ℕ). from m (w adding b)) (sym (less k b left))))
+        ∙ ap (λ (t : ℕ → Option (List ℕ)). first_some t (next (straight n) w))
+        (fun_ext (λ b. ap (λ (m : ℕ). from m (w adding b)) (sym (less k b left))))
 
     module _ (d : Death (straight n) n (agrees q f g) (some_dead n q f g)) where
       -- a node with a dead pair has none
-      pub first_closed : (p : Pair) → first_dead n q f g w ≡ some p → first_from n q f g w ≡ none
+      pub first_closed : (p : Pair) → first_dead n q f g w ≡ Some p → first_from n q f g w ≡ None
       unfolding first_from
       first_closed p e =
-          cut_first (straight n) n (agrees q f g) (some_dead n q f g) d (n - length w) w (record { total = omega (arith, within); allowed = allowed }) (found_dead n q f g w p e)
+          let reached : Reached (straight n) n (n - length w) w = record { total = omega (arith, within); allowed = allowed } in
+          cut_first (straight n) n (agrees q f g) (some_dead n q f g) d (n - length w) w reached (found_dead n q f g w p e)
 
       -- and a whole wiring without one agrees
-      pub first_whole : length w ≡ n → first_dead n q f g w ≡ none → first_from n q f g w ≡ some w
+      pub first_whole : length w ≡ n → first_dead n q f g w ≡ None → first_from n q f g w ≡ Some w
       unfolding first_from completions first
       first_whole h e =
           let left : n - length w ≡ zero = omega arith in
           let reached : Reached (straight n) n 0 w = record { total = omega arith; allowed = allowed } in
           ap (λ (k : ℕ). first (agrees q f g) (completions (straight n) k w)) left
-          ∙ ap (λ (t : Bool). cond t (some w) none) (whole_passes (straight n) n (agrees q f g) (some_dead n q f g) d w reached (first_dead_none n q f g w e))
+          ∙ ap (λ (t : Bool). cond t (Some w) None)
+          (whole_passes (straight n) n (agrees q f g) (some_dead n q f g) d w reached (first_dead_none n q f g w e))
 
 -- accepted functions have such a death
 pub death_at : (n q : ℕ) (f g : List ℕ) → n ≡ inputs g → Accepted f g → Death (straight n) n (agrees q f g) (some_dead n q f g)
@@ -130,7 +134,7 @@ node_most n q f g w few allowed =
 
 -- ---- as the code meets it, with the choices in a wiring by value
 
-module _ (r : Wiring) (q : ℕ) (f g : List ℕ) (s : Formed r) where
+module _ (r : Masks) (q : ℕ) (f g : List ℕ) (s : Formed r) where
   abbrev n : ℕ
   n = r.n
 
@@ -138,23 +142,26 @@ module _ (r : Wiring) (q : ℕ) (f g : List ℕ) (s : Formed r) where
   w = prefix r
 
   -- the pair that is found closes the node
-  pub closing_node : (pair : Found) → pair ≡ found (first_dead n q f g w) → pair.found ≡ true → pair.s ∷ pair.u ∷ pair.v ∷ [] ≡ node_bytes n q f g w
-  unfolding found
-  closing_node pair is e =
-      let p = found_some (first_dead n q f g w) (found_as (first_dead n q f g w) pair is e) in
-      ap (λ (x : Found). x.s ∷ x.u ∷ x.v ∷ []) (is ∙ ap found p.1) ∙ sym (closed n q f g w p.0 p.1)
+  pub closing_node : (p : PairFound) → Some p ≡ found (first_dead n q f g w) → node_bytes n q f g w ≡ p.s ∷ p.u ∷ p.v ∷ []
+  closing_node p e =
+      let x = found_some (first_dead n q f g w) p e in
+      closed n q f g w x.0 x.1 ∙ ap (λ (p : PairFound). p.s ∷ p.u ∷ p.v ∷ []) (sym x.2)
 
   -- without one the node is split
-  pub opened_node : (found (first_dead n q f g w)).found ≡ false → node_bytes n q f g w ≡ 0xFF ∷ branches n q f g w (offered n w 0)
+  pub opened_node : None ≡ found (first_dead n q f g w) → node_bytes n q f g w ≡ 0xFF ∷ branches n q f g w (offered n w 0)
   opened_node e = opened n q f g w s.few s.allowed (found_none (first_dead n q f g w) e)
 
   -- the choice at a place that is offered, and the wiring that has it: its tree comes first, then those of the choices after it
-  module _ (k b : ℕ) (h : k < 2 * n) (is : b ≡ choice_at k) (here : Next n w k) (r' : Wiring) (placed : StandsFor r' n (w adding b)) (k' : ℕ) (next : k' ≡ offer_from n w (k + 1)) where
-    pub branches_on : branches n q f g w (offered n w k) ≡ node_bytes r'.n q f g (prefix r') ++ branches n q f g w (offered n w k')
+  module _ (k b : ℕ) (h : k < 2 * n) (is : b ≡ choice_at k) (here : Next n w k) (r' : Masks)
+      (placed : StandsFor r' n (w adding b)) (k' : ℕ) (next : k' ≡ offer_from n w (k + 1)) where
+    abbrev later : ℕ → List ℕ
+    later k = branches n q f g w (offered n w k)
+
+    pub branches_on : later k ≡ node_bytes r'.n q f g (prefix r') ++ later k'
     unfolding tree_each trees_bytes
     branches_on =
         ap (branches n q f g w) (takes r s k b h is here k' next)
         ∙ sym (stands_as r' n (w adding b) placed (λ m v. node_bytes m q f g v ++ branches n q f g w (offered n w k')))
 
-    pub branches_long : length (branches n q f g w (offered n w k)) ≡ length (node_bytes r'.n q f g (prefix r')) + length (branches n q f g w (offered n w k'))
-    branches_long = ap length branches_on ∙ length-append (node_bytes r'.n q f g (prefix r')) (branches n q f g w (offered n w k'))
+    pub branches_long : length (later k) ≡ length (node_bytes r'.n q f g (prefix r')) + length (later k')
+    branches_long = ap length branches_on ∙ length-append (node_bytes r'.n q f g (prefix r')) (later k')

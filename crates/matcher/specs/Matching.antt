@@ -1,7 +1,8 @@
 -- What the matcher answers, and the claim that it leaves in the buffer: the first agreeing wiring of the list of all wirings; or,
 -- where none agrees, the refusal with the matcher's own two trees.
-use Rattle.std.specs.Prelude.{ℕ, ◌-◌, true, false, List, [], length}
-use Rattle.std.proofs.Math.Option.{Option, none, some}
+use Rattle.std.specs.Prelude.{ℕ, ◌-◌, List, [], length, Ok, Err}
+use Rattle.std.specs.declared.option.Option.{Option}
+use Rattle.std.specs.declared.option.Option.TheVariants.{None, Some}
 use Rattle.rules.specs.Lists.{first}
 use Rattle.rules.specs.Rules.{completions}
 use Rattle.answers.specs.declared.Answer.{Answer}
@@ -10,7 +11,7 @@ use Rattle.records.specs.Records.{inputs, both_read}
 use Rattle.wirings.specs.Wirings.{straight, wirings, agrees, agreeing}
 use Rattle.partial.specs.Partial.{as_number}
 use Rattle.claims.specs.Claims.{match_claim, refusal_claim, own_tree}
-use Rattle.matcher.specs.declared.Outcome.{Outcome}
+use Rattle.std.specs.declared.result.Result.{Result}
 
 -- ---- what is believed
 
@@ -24,12 +25,12 @@ own_refusal f g = refusal_claim (inputs g) (own_tree (inputs g) 0 f g []) (own_t
 
 -- the claim for a wiring that was found, and where none was; and its kind
 unfoldable pub claim_of : List ℕ → List ℕ → Option (List ℕ) → List ℕ
-claim_of f g (some v) = match_claim (inputs g) v
-claim_of f g none = own_refusal f g
+claim_of f g (Some v) = match_claim (inputs g) v
+claim_of f g None = own_refusal f g
 
 unfoldable pub kind_found : Option (List ℕ) → ℕ
-kind_found (some v) = 1
-kind_found none = 2
+kind_found (Some v) = 1
+kind_found None = 2
 
 -- the claim for f and g
 abbrev pub claim_for : List ℕ → List ℕ → List ℕ
@@ -46,6 +47,6 @@ unfoldable pub first_from : ℕ → ℕ → List ℕ → List ℕ → List ℕ �
 first_from n q f g w = first (agrees q f g) (completions (straight n) (n - length w) w)
 
 -- the choices found, or else a length
-unfoldable pub searched : Option (List ℕ) → ℕ → Outcome
-searched (some v) length = record { found = true; choices = as_number v; length = 0 }
-searched none length = record { found = false; choices = 0; length = length }
+unfoldable pub searched : Option (List ℕ) → ℕ → Result ℕ ℕ
+searched (Some v) length = Ok (as_number v)
+searched None length = Err length

@@ -21,10 +21,10 @@ use Rattle.rules.proofs.Completions.{follows_append}
 use Rattle.wirings.specs.Wirings.{input_of, inverted, straight, choices_from, is_choice, uses, free_choice}
 use Rattle.wirings.specs.Pairs.{unplaced, unused}
 use Rattle.wirings.proofs.Choices.{listed, choice_input, placed_choice}
-use Rattle.partial.specs.declared.Wiring.{Wiring}
+use Rattle.partial.specs.declared.Masks.{Masks}
 use Rattle.partial.specs.Partial.{as_number, inverts, serves, partial, prefix, StandsFor, Formed}
 use Rattle.partial.proofs.Joined.{number_add}
-use Rattle.partial.proofs.Standing.{placed_within, placed_fits, stands_n, stands_depth, stands_unplaced, stands_free, stands_inverted, stands_bits, stands_choices, past, but, tested, in_byte}
+use Rattle.partial.proofs.Standing.{depth_few, choice_shifted, placed_within, placed_fits, stands_n, stands_depth, stands_unplaced, stands_free, stands_inverted, stands_bits, stands_choices, past, but, tested, in_byte}
 
 -- a bit that was 1 is set again, and one that was 0 is cleared again
 set_again : (t e : Bool) → (e ≡ true → t ≡ true) → t && not e || e && true ≡ t
@@ -40,7 +40,7 @@ cleared_again false true true was = refl
 cleared_again false true false was = refl
 cleared_again false false x was = refl
 
-module _ (r : Wiring) (n : ℕ) (u : List ℕ) (b : ℕ) (s : StandsFor r n (u adding b)) where
+module _ (r : Masks) (n : ℕ) (u : List ℕ) (b : ℕ) (s : StandsFor r n (u adding b)) where
   abbrev d : ℕ
   d = length u
 
@@ -70,7 +70,7 @@ module _ (r : Wiring) (n : ℕ) (u : List ℕ) (b : ℕ) (s : StandsFor r n (u a
   input_below : input_of b < n
   input_below = choice_input n (omega (arith, s.few)) b (sym (listed n b) ∙ both_left (some_in (eqb b) (choices_from 0 n)) (free_choice u b) may_last)
 
-  pub input_room : bit_and b 15 < 8
+  input_room : bit_and b 15 < 8
   input_room = omega (arith, and_mask b 4, input_below, s.few)
 
   -- the choice at its place in the packed number
@@ -80,7 +80,7 @@ module _ (r : Wiring) (n : ℕ) (u : List ℕ) (b : ℕ) (s : StandsFor r n (u a
   shift_exact : (b * 2 ^ (8 * (r.depth - 1))) % 2 ^ 64 ≡ b * 2 ^ (8 * (r.depth - 1))
   shift_exact = mod-eq_of_lt (omega (arith, grown, stands_choices r n more s, placed_fits n s.few more s.allowed))
 
-  pub choices_hold : (b * 2 ^ (8 * (r.depth - 1))) % 2 ^ 64 ≤ r.choices
+  choices_hold : (b * 2 ^ (8 * (r.depth - 1))) % 2 ^ 64 ≤ r.choices
   choices_hold = omega (arith, shift_exact, grown)
 
   choices_less : r.choices - (b * 2 ^ (8 * (r.depth - 1))) % 2 ^ 64 ≡ as_number u
@@ -153,7 +153,7 @@ module _ (r : Wiring) (n : ℕ) (u : List ℕ) (b : ℕ) (s : StandsFor r n (u a
 
 -- ---- as the code meets it: the choices before the last, and the last
 
-module _ (r : Wiring) (s : Formed r) (some : 0 < r.depth) where
+module _ (r : Masks) (s : Formed r) (some : 0 < r.depth) where
   abbrev pub before : List ℕ
   before = take (r.depth - 1) (prefix r)
 
@@ -171,6 +171,17 @@ module _ (r : Wiring) (s : Formed r) (some : 0 < r.depth) where
       let split : prefix r ≡ before adding b = sym all ∙ take-suc (prefix r) i 0 last_there ∙ ap (λ (b : ℕ). before adding b) (sym is) in
       subst (StandsFor r r.n) split s
 
+  module _ (b : ℕ) (is : b ≡ get_or (prefix r) (r.depth - 1) 0) where
+    -- its input of g is below 8, and its byte can be taken away
+    pub last_input : bit_and b 15 < 8
+    last_input = input_room r r.n before b (stands_last b is)
+
+    pub last_fits : (b * 2 ^ (8 * (r.depth - 1))) % 2 ^ 64 ≤ r.choices
+    last_fits = choices_hold r r.n before b (stands_last b is)
+
   -- without it, the depth is one less
-  pub back_depth : (r' : Wiring) → StandsFor r' r.n before → r'.depth ≡ r.depth - 1
+  pub back_depth : (r' : Masks) → StandsFor r' r.n before → r'.depth ≡ r.depth - 1
   back_depth r' back = omega (arith, stands_depth r' r.n before back, length-take (r.depth - 1) (prefix r), last_there)
+
+-- the last choice is there, and can be taken away
+pub ruleset taking = (depth_few, choice_shifted, last_there, last_input, last_fits)

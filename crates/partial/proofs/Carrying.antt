@@ -6,7 +6,6 @@ use mathlib.Core.Bool.{Bool, true, false, cond, not, ◌&&◌, ◌||◌, and_ass
 use mathlib.Core.List.{List, []}
 use native.Mathlib.Nat.{lt_of_le_of_lt, lt_of_lt_of_le}
 use native.Mathlib.Omega.{arith}
-use borrow.Author.Tests.{eq-eqb, ne_eqb}
 use lib.Bits.{bit_and, bit_or, bit_xor, xor_comm, and_le_r, or_lt}
 use lib.Dec.{ltb, eqb}
 use lib.ListN.{length, get_or}
@@ -19,7 +18,7 @@ use Rattle.rules.specs.Rules.{follows}
 use Rattle.wirings.specs.Wirings.{input_of, straight}
 use Rattle.wirings.specs.Pairs.{asks_one, asks_zero, carried_pos, carried_neg, separates, unused, unplaced_literal, unused_literal, dead}
 use Rattle.partial.specs.declared.Carried.{Carried}
-use Rattle.partial.specs.declared.Wiring.{Wiring}
+use Rattle.partial.specs.declared.Masks.{Masks}
 use Rattle.partial.specs.Partial.{prefix, Formed, led, carried, opposes, clears}
 use Rattle.partial.proofs.Standing.{stands_free}
 use Rattle.partial.proofs.Matrix.{in_mask, within, served, waits, asking, asked}
@@ -58,18 +57,8 @@ module _ (c : Carried) (P' N' : ℕ) (p : P' < 2 ^ 8) (m : N' < 2 ^ 8) where
       turned true e = ap not e
       turned false e = ap not e
 
--- ---- the literals that wait: on an unplaced input of f, and on an unused input of g
+-- ---- the inputs of g at which a literal that waits may come to stand
 
-module _ (r : Wiring) (s : Formed r) (P N : ℕ) where
-  -- the inputs of g at which a literal may still come to stand: none, or those that are free
-  pub none_waits : bit_and (bit_or P N) r.unplaced ≡ 0 → 0 ≡ cond (unplaced_literal r.n (prefix r) P N) (mask r.n (unused (prefix r))) 0
-  none_waits e = ap {B = ℕ} (λ (t : Bool). cond t (mask r.n (unused (prefix r))) 0) (sym (ap not (eq-eqb _ 0 e)) ∙ waits r s P N)
-
-  pub one_waits : (bit_and (bit_or P N) r.unplaced ≡ 0 → ⊥) → r.free ≡ cond (unplaced_literal r.n (prefix r) P N) (mask r.n (unused (prefix r))) 0
-  one_waits e =
-      stands_free r r.n (prefix r) s ∙ ap (λ (t : Bool). cond t (mask r.n (unused (prefix r))) 0) (sym (ap not (ne_eqb _ 0 e)) ∙ waits r s P N)
-
--- the inputs of g at which a waiting literal may come to stand
 free_meets : (U : Bool) (n : ℕ) → n ≤ 8 → (w : List ℕ) (P' N' : ℕ)
     → any 8 (λ j. has (cond U (mask n (unused w)) 0) j && cube_names P' N' j) ≡ U && unused_literal n w P' N'
 free_meets true n few w P' N' = in_mask (unused w) (cube_names P' N') n few
@@ -99,7 +88,7 @@ module _ (n : ℕ) (few : n ≤ 8) (w : List ℕ) (allowed : follows (straight n
 
 -- ---- all placed literals carried at once
 
-module _ (r : Wiring) (s : Formed r) where
+module _ (r : Masks) (s : Formed r) where
   abbrev w : List ℕ
   w = prefix r
 
@@ -113,11 +102,15 @@ module _ (r : Wiring) (s : Formed r) where
       ∙ any_same _ _ (length w) (λ i h. ap (λ (t : Bool). eqb j (input_of (get_or w i 0)) && t) (asked r s P N i h)))
 
   -- of both, and where one may still come to stand
-  pub all_led : (P N ones zeros free : ℕ) → let turned = bit_and (bit_xor P N) r.inverted in
-      ones ≡ led r.bits (bit_xor P turned) → zeros ≡ led r.bits (bit_xor N turned) → free ≡ cond (unplaced_literal r.n w P N) (mask r.n (unused w)) 0
-      → record { pos = ones; neg = zeros; free = free } ≡ carried r.n w P N
+  pub all_led : (P N : ℕ) → let turned = bit_and (bit_xor P N) r.inverted in
+      carried r.n w P N ≡ record {
+        pos = led r.bits (bit_xor P turned);
+        neg = led r.bits (bit_xor N turned);
+        free = cond (not (eqb (bit_and (bit_or P N) r.unplaced) 0)) r.free 0;
+      }
   unfolding carried
-  all_led P N ones zeros free is_ones is_zeros is_free =
-      let pos_is = is_ones ∙ led_pos P N in
-      let neg_is = is_zeros ∙ ap (λ (m : ℕ). led r.bits (bit_xor N (bit_and m r.inverted))) (xor_comm P N) ∙ led_pos N P in
-      λ i. record { pos = pos_is i; neg = neg_is i; free = is_free i }
+  all_led P N =
+      let pos_is = led_pos P N in
+      let neg_is = ap (λ (m : ℕ). led r.bits (bit_xor N (bit_and m r.inverted))) (xor_comm P N) ∙ led_pos N P in
+      let free_is = ap₂ (λ (t : Bool) (m : ℕ). cond t m 0) (waits r s P N) (stands_free r r.n w s) in
+      sym (λ i. record { pos = pos_is i; neg = neg_is i; free = free_is i })

@@ -1,4 +1,5 @@
 pub mod Joined
+pub mod Bytes
 pub mod Standing
 pub mod Back
 pub mod Steps

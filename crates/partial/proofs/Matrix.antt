@@ -2,12 +2,11 @@
 -- the inputs of g at which the literal of input i is opposed, some bit stays exactly where the literal separates the pair.
 use Prim.Native.Nat.{ℕ, zero, suc, ◌+◌, ◌*◌, ◌/◌, ◌%◌, ◌^◌, ◌≤◌, ◌<◌}
 use mathlib.Core.Path.{◌≡◌, refl, sym, ap, ap₂, ◌∙◌}
-use mathlib.Core.Bool.{Bool, true, false, cond, not, ◌&&◌, ◌||◌, xor, and_assoc, and_comm, and-true, and-false, or-true}
+use mathlib.Core.Bool.{Bool, true, false, cond, not, ◌&&◌, ◌||◌, xor, and_assoc, and_comm}
 use mathlib.Core.List.{List}
-use mathlib.Core.Logic.{◌⊎◌, inl, inr}
-use native.Mathlib.Nat.{le_trans, lt_of_le_of_lt, lt_of_lt_of_le, zero-mul, add-mul, mul_assoc}
+use native.Mathlib.Nat.{le_trans, lt_of_le_of_lt, lt_of_lt_of_le}
 use native.Mathlib.Omega.{arith}
-use borrow.Author.Tests.{ltb-true, lt-ltb, eqb-true, eq-eqb, ne_eqb}
+use borrow.Author.Tests.{ltb-true, lt-ltb, eqb-true, eq-eqb}
 use lib.Bits.{bit_and, bit_or, bit_xor, xor_comm, and_le_r, and_le_l}
 use lib.Dec.{ltb, eqb}
 use lib.Pow.{pow_mono}
@@ -15,39 +14,15 @@ use lib.ListN.{length, get_or}
 use Rattle.bits.specs.Bits.{has, mask, any}
 use Rattle.bits.proofs.Tests.{both, both_left, both_right, same_test}
 use Rattle.bits.proofs.Below.{any_at, any_if, any_add, any_never, any_same, any_under}
-use Rattle.bits.proofs.Bit.{has_or, has_and, has_xor, has_shr, bit_mod, any_bit}
+use Rattle.bits.proofs.Bit.{has_or, has_and, has_xor, any_bit}
 use Rattle.bits.proofs.Mask.{mask_lt, mask_has, mask_at}
 use Rattle.cubes.specs.Cubes.{cube_names}
 use Rattle.wirings.specs.Wirings.{input_of, inverted}
-use Rattle.wirings.specs.Pairs.{asks_one, opposed, separates, unplaced, unused, unplaced_literal, unused_literal, dead}
+use Rattle.wirings.specs.Pairs.{asks_one, opposed, separates, unplaced, unused, unplaced_literal, unused_literal}
 use Rattle.wirings.proofs.Choices.{placed_input}
-use Rattle.partial.specs.declared.Wiring.{Wiring}
+use Rattle.partial.specs.declared.Masks.{Masks}
 use Rattle.partial.specs.Partial.{inverts, serves, prefix, Formed}
 use Rattle.partial.proofs.Standing.{placed_within, stands_unplaced, stands_free, stands_inverted, stands_bits}
-
--- ---- a number of k bytes, of which byte i is f i
-
-unfoldable pub of_bytes : ℕ → (ℕ → ℕ) → ℕ
-of_bytes zero f = 0
-of_bytes (suc k) f = f 0 + 256 * of_bytes k (λ i. f (suc i))
-
-pub bytes_times : (k : ℕ) (f : ℕ → ℕ) (b : ℕ) → of_bytes k f * b ≡ of_bytes k (λ i. f i * b)
-unfolding of_bytes
-bytes_times zero f b = zero-mul b
-bytes_times (suc k) f b =
-    let rest = of_bytes k (λ i. f (suc i)) in
-    add-mul (f 0) (256 * rest) b ∙ ap (λ (m : ℕ). f 0 * b + m) (mul_assoc 256 rest b ∙ ap (λ (m : ℕ). 256 * m) (bytes_times k (λ i. f (suc i)) b))
-
-pub bytes_has : (k : ℕ) (f : ℕ → ℕ) → ((i : ℕ) → f i < 256) → (i j : ℕ) → i < k → j < 8 → has (of_bytes k f) (8 * i + j) ≡ has (f i) j
-unfolding of_bytes
-bytes_has zero f small i j h l = absurd (omega (arith, h))
-bytes_has (suc k) f small zero j h l =
-    let low : of_bytes (suc k) f % 2 ^ 8 ≡ f 0 = omega (arith, small 0) in
-    ap (has (of_bytes (suc k) f)) (omega arith) ∙ ap (λ (b : ℕ). eqb b 1) (sym (bit_mod j 8 (of_bytes (suc k) f) l)) ∙ ap (λ (m : ℕ). has m j) low
-bytes_has (suc k) f small (suc i) j h l =
-    let high : of_bytes (suc k) f / 2 ^ 8 ≡ of_bytes k (λ i. f (suc i)) = omega (arith, small 0) in
-    ap (has (of_bytes (suc k) f)) (omega arith) ∙ sym (has_shr (of_bytes (suc k) f) 8 (8 * i + j)) ∙ ap (λ (m : ℕ). has m (8 * i + j)) high
-    ∙ bytes_has k (λ i. f (suc i)) (λ i. small (suc i)) i j (omega arith) l
 
 -- ---- tests row by row
 
@@ -99,7 +74,7 @@ side_turned false true false = refl
 side_turned false false true = refl
 side_turned false false false = refl
 
-module _ (r : Wiring) (s : Formed r) where
+module _ (r : Masks) (s : Formed r) where
   abbrev w : List ℕ
   w = prefix r
 
@@ -174,23 +149,3 @@ module _ (r : Wiring) (s : Formed r) where
           ∙ any_same _ _ 8 (λ i h. any_same _ _ 8 (λ j l. met_has i j h l) ∙ any_place (ltb i (length w)) (input_of (get_or w i 0)) (against_row i) 8 (inside i))
           ∙ any_under (λ i. against_row i (input_of (get_or w i 0))) (length w) 8 within
           ∙ any_same _ _ (length w) row_opposed
-
-    -- ---- the pair is dead
-
-    -- not while a literal waits on either side
-    pub both_wait : (bit_and (bit_or P N) r.unplaced ≡ 0 → ⊥) → (bit_and (bit_or P' N') r.free ≡ 0 → ⊥) → false ≡ dead r.n w P N P' N'
-    unfolding dead
-    both_wait e e' =
-        sym (and-false (not (separates w P N P' N')))
-        ∙ ap₂ (λ (u v : Bool). not (separates w P N P' N') && (not u || not v)) (sym (ap not (ne_eqb _ 0 e)) ∙ waits P N) (sym (ap not (ne_eqb _ 0 e')) ∙ awaits P' N')
-
-    -- and else where no placed literal separates it
-    pub none_waits_on : ◌⊎◌ (bit_and (bit_or P N) r.unplaced ≡ 0) (bit_and (bit_or P' N') r.free ≡ 0) → not (separates w P N P' N') ≡ dead r.n w P N P' N'
-    unfolding dead
-    none_waits_on (inl e) =
-        sym (and-true (not (separates w P N P' N')))
-        ∙ ap (λ (u : Bool). not (separates w P N P' N') && (not u || not (unused_literal r.n w P' N'))) (sym (ap not (eq-eqb _ 0 e)) ∙ waits P N)
-    none_waits_on (inr e) =
-        sym (and-true (not (separates w P N P' N')))
-        ∙ ap (λ (t : Bool). not (separates w P N P' N') && t)
-        (sym (or-true (not (unplaced_literal r.n w P N))) ∙ ap (λ (v : Bool). not (unplaced_literal r.n w P N) || not v) (sym (ap not (eq-eqb _ 0 e)) ∙ awaits P' N'))

@@ -16,12 +16,12 @@ use Rattle.bits.proofs.Bit.{bit_low, has_or, has_shr, one_shifted, trailing_zero
 use Rattle.bits.proofs.Mask.{mask_at, has_pow}
 use Rattle.wirings.specs.Wirings.{choice_at, free_choice, uses}
 use Rattle.wirings.specs.Pairs.{unused}
-use Rattle.partial.specs.declared.Wiring.{Wiring}
+use Rattle.partial.specs.declared.Masks.{Masks}
 use Rattle.partial.specs.Partial.{Formed, prefix, offer_from}
 use Rattle.partial.proofs.Standing.{stands_free}
 use Rattle.partial.proofs.Steps.{offer_here, offer_end, skip_to}
 
-module _ (r : Wiring) (s : Formed r) where
+module _ (r : Masks) (s : Formed r) where
   abbrev n : ℕ
   n = r.n
 
@@ -102,3 +102,6 @@ module _ (r : Wiring) (s : Formed r) where
           above : (t : ℕ) → bit t left ≡ 1 → 1 ≤ t
           above zero o = absurd (omega (arith, bit_low left, and_mask left 1))
           above (suc t) o = omega arith
+
+-- what the code's test of the mask says of the offer
+pub ruleset offering = (offers_here, zeros_fit, offers_further)

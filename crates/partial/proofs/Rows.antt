@@ -1,78 +1,145 @@
 -- The first dead pair, row by row: one cube of f against a list of g, then a list of f against a list of g, then both lists
--- of f. Each is the first number that gives something (`first_some`), so one law serves both loops.
-use Prim.Native.Nat.{ℕ, ◌+◌, ◌*◌, ◌≤◌, ◌<◌}
-use mathlib.Core.Path.{◌≡◌, refl, sym, ap, ap₂, ◌∙◌, fun_ext}
-use mathlib.Core.Bool.{Bool, true, false, cond, false≢true}
+-- of f. Each is the first number that gives something (`first_some`), and the code asks the pairs of a list in turn
+-- (`first_pair`), so one law serves both walks.
+use Prim.Native.Nat.{ℕ, suc, ◌+◌, ◌*◌, ◌≤◌, ◌<◌}
+use mathlib.Core.Path.{◌≡◌, refl, sym, ap, ap₂, ◌∙◌, subst, fun_ext}
+use mathlib.Core.Bool.{Bool, true, false, cond}
 use mathlib.Core.List.{List, [], ◌∷◌}
-use mathlib.Core.Option.{Option, none, some}
-use lib.ListN.{get_or}
-use Rattle.rules.specs.Lists.{upto, first}
+use native.Mathlib.Omega.{arith}
+use native.Mathlib.Numerals.{add-one}
+use lib.ListN.{length, get_or, drop, drop_of_length-le}
+use lib.Seq.{drop-cons}
+use Rattle.std.specs.Prelude.{is_some}
+use Rattle.std.specs.declared.option.Option.{Option}
+use Rattle.std.specs.declared.option.Option.TheVariants.{None, Some}
+use Rattle.std.specs.Option.{option_map}
+use Rattle.std.specs.List.{position, position_from}
+use Rattle.std.proofs.lemmas.Iterator.Adapters.{position_from-zero}
+use Rattle.cubes.specs.Values.{in_pairs}
+use Rattle.cubes.proofs.Lists.{of_pair as pair_passes}
+use Rattle.rules.specs.Lists.{run, upto, first}
 use Rattle.rules.specs.Rules.{follows}
 use Rattle.rules.proofs.Lists.{map_in, first_some, first_same, first_flat, ◌else◌}
-use Rattle.rules.proofs.Seek.{Seek, seek_found, seek_goes, seek_ends, first_given, else_nothing}
+use Rattle.rules.proofs.Seek.{first_given, else_nothing}
 use Rattle.wirings.specs.Wirings.{straight}
 use Rattle.wirings.specs.Pairs.{dead, cubes_in, at_cube, side, against, Pair, cube_pairs, pairs, pair_test, of_pair, first_dead}
 use Rattle.wirings.proofs.Indexed.{of_side, side_test}
+use Rattle.partial.specs.declared.Masks.{Masks}
 use Rattle.partial.specs.declared.Carried.{Carried}
-use Rattle.partial.specs.declared.Found.{Found}
-use Rattle.partial.specs.Partial.{carried, clears, found, row, rows}
+use Rattle.partial.specs.declared.Pair.{Pair as PairFound}
+use Rattle.partial.specs.Partial.{carried, clears, found, row, rows, prefix, Formed}
 use Rattle.partial.proofs.Carrying.{clears_dead}
 
--- a pair is found, or none is
-pub found_some : (o : Option Pair) → (found o).found ≡ true → (p : Pair) × (o ≡ some p)
-unfolding found
-found_some none e = absurd (false≢true e)
-found_some (some p) e = (p, refl)
+-- ---- what is found: a pair where there is one, and else none
 
-pub found_none : (o : Option Pair) → (found o).found ≡ false → o ≡ none
+pub found_some : (o : Option Pair) (p : PairFound) → Some p ≡ found o → (x : Pair) × (o ≡ Some x) × (p ≡ record { s = x.0; u = x.1; v = x.2 })
 unfolding found
-found_none none e = refl
-found_none (some p) e = absurd (false≢true (sym e))
+found_some None p e = cc
+found_some (Some x) p e = (x, refl, cc)
 
--- as a caller meets it
-pub found_as : (o : Option Pair) (pair : Found) {t : Bool} → pair ≡ found o → pair.found ≡ t → (found o).found ≡ t
-found_as o pair is e = ap (λ (x : Found). x.found) (sym is) ∙ e
+pub found_none : (o : Option Pair) → None ≡ found o → o ≡ None
+unfolding found
+found_none None e = refl
+found_none (Some x) e = cc
+
+pub found_is_some : (o : Option Pair) → is_some (found o) ≡ is_some o
+unfolding found
+found_is_some None = refl
+found_is_some (Some x) = refl
+
+found_else : (a b : Option Pair) → found (a else b) ≡ (found a else found b)
+unfolding found ◌else◌
+found_else None b = refl
+found_else (Some x) b = refl
+
+-- ---- the numbers of a list's cubes, as its pairs
+
+module _ {B : Type 0} where
+  -- the first of these pairs, numbered from u, that gives something
+  unfoldable pub first_pair : (ℕ → ℕ → ℕ → Option B) → ℕ → List (List ℕ) → Option B
+  first_pair h u [] = None
+  first_pair h u (c ∷ ps) = h u (get_or c 0 0) (get_or c 1 0) else first_pair h (u + 1) ps
+
+  by_pairs : (h : ℕ → ℕ → ℕ → Option B) (l : List ℕ) (at : ℕ → Option B) (u : ℕ) → ((k : ℕ) → at (u + k) ≡ at_cube (h (u + k)) l k)
+      → first_some at (run u (cubes_in l)) ≡ first_pair h u (in_pairs l)
+  unfolding first_some run in_pairs first_pair
+  by_pairs h [] at u same = refl
+  by_pairs h (P ∷ []) at u same = refl
+  by_pairs h (P ∷ N ∷ l) at u same =
+      let more : cubes_in (P ∷ N ∷ l) ≡ suc (cubes_in l) = omega arith in
+      let first : u + 0 ≡ u = omega arith in
+      ap (λ (n : ℕ). first_some at (run u n)) more
+      ∙ ap₂ (λ (a b : Option B). a else b) (subst (λ (k : ℕ). at k ≡ h k P N) first (same 0))
+      (ap (λ (k : ℕ). first_some at (run k (cubes_in l))) (omega arith)
+      ∙ by_pairs h l at (u + 1)
+      (λ k.
+      let later : u + suc k ≡ u + 1 + k = omega arith in
+      let pos : 2 * suc k ≡ suc (suc (2 * k)) = omega arith in
+      let neg : 2 * suc k + 1 ≡ suc (suc (2 * k + 1)) = omega arith in
+      subst (λ (m : ℕ). at m ≡ at_cube (h m) (P ∷ N ∷ l) (suc k)) later (same (suc k))
+      ∙ ap₂ (λ (i j : ℕ). h (u + 1 + k) (get_or (P ∷ N ∷ l) i 0) (get_or (P ∷ N ∷ l) j 0)) pos neg))
+
+  -- a walk from one pair to the next
+  walk_step : (h : ℕ → ℕ → ℕ → Option B) (ps : List (List ℕ)) (u : ℕ) (d : List ℕ) → u < length ps
+      → first_pair h u (drop u ps) ≡ (h u (get_or (get_or ps u d) 0 0) (get_or (get_or ps u d) 1 0) else first_pair h (u + 1) (drop (u + 1) ps))
+  unfolding first_pair
+  walk_step h ps u d l =
+      ap (first_pair h u) (drop-cons ps u d l)
+      ∙ ap (λ (k : ℕ). h u (get_or (get_or ps u d) 0 0) (get_or (get_or ps u d) 1 0) else first_pair h (u + 1) (drop k ps)) (sym (add-one u))
+
+  -- the first that passes a test, as std has it
+  by_position : (t : ℕ → ℕ → Bool) (f : ℕ → B) (v : ℕ) (ps : List (List ℕ))
+      → first_pair (λ v P N. cond (t P N) (Some (f v)) None) v ps ≡ option_map f (position_from (pair_passes t) v ps)
+  unfolding first_pair ◌else◌
+  by_position t f v [] = refl
+  by_position t f v (c ∷ ps) =
+      elim (pair_passes t c) as (λ b. (cond b (Some (f v)) None else first_pair (λ v P N. cond (t P N) (Some (f v)) None) (v + 1) ps) ≡ option_map f (cond b (Some v) (position_from (pair_passes t) (v + 1) ps))) [
+        | true ↦ refl
+        | false ↦ by_position t f (v + 1) ps
+      ]
 
 -- ---- one carried cube against a list
 
 module _ (c : Carried) (list : List ℕ) (s u : ℕ) where
-  -- what cube v of the list gives
-  abbrev pub row_at : ℕ → Option Pair
-  row_at v = cond (at_cube (clears c) list v) (some (s, u, v)) none
+  -- what cube v gives
+  abbrev row_at : ℕ → ℕ → ℕ → Option Pair
+  row_at v P N = cond (clears c P N) (Some (s, u, v)) None
 
-  row_given : row c list s u ≡ first_some row_at (upto (cubes_in list))
+  row_given : row c list s u ≡ option_map (λ v. (s, u, v)) (position (pair_passes (clears c)) (in_pairs list))
   unfolding row
-  row_given = first_given (λ p. at_cube (clears c) list p.2) (λ v. (s, u, v)) (upto (cubes_in list))
+  row_given =
+      first_given (λ p. at_cube (clears c) list p.2) (λ v. (s, u, v)) (upto (cubes_in list))
+      ∙ by_pairs row_at list (λ v. at_cube (row_at v) list v) 0 (λ k. let same : 0 + k ≡ k = omega arith in ap (λ (v : ℕ). at_cube (row_at (0 + k)) list v) same)
+      ∙ by_position (clears c) (λ v. (s, u, v)) 0 (in_pairs list)
+      ∙ ap (option_map (λ v. (s, u, v))) (sym (position_from-zero (pair_passes (clears c)) (in_pairs list)))
 
-  module _ (v : ℕ) (w : Seek row_at (cubes_in list) v) where
-    pub row_found : v < cubes_in list → at_cube (clears c) list v ≡ true → row c list s u ≡ some (s, u, v)
-    row_found h e =
-        let here : row_at v ≡ some (s, u, v) = ap (λ (t : Bool). cond t (some (s, u, v)) none) e in
-        row_given ∙ seek_found row_at (cubes_in list) v w h (s, u, v) here ∙ here
+  pub row_found : (v : ℕ) → position (pair_passes (clears c)) (in_pairs list) ≡ Some v → found (row c list s u) ≡ Some (record { s = s; u = u; v = v })
+  unfolding found
+  row_found v e = ap found (row_given ∙ ap (option_map (λ v. (s, u, v))) e)
 
-    pub row_goes : v < cubes_in list → at_cube (clears c) list v ≡ false → Seek row_at (cubes_in list) (v + 1)
-    row_goes h e = seek_goes row_at (cubes_in list) v w h (ap (λ (t : Bool). cond t (some (s, u, v)) none) e)
-
-    pub row_ends : cubes_in list ≤ v → row c list s u ≡ none
-    row_ends h = row_given ∙ seek_ends row_at (cubes_in list) v w h
+  pub row_none : position (pair_passes (clears c)) (in_pairs list) ≡ None → found (row c list s u) ≡ None
+  unfolding found
+  row_none e = ap found (row_given ∙ ap (option_map (λ v. (s, u, v))) e)
 
 -- ---- a list of f against a list of g
 
--- what cube u of the list gives
-abbrev pub rows_at : ℕ → List ℕ → List ℕ → List ℕ → ℕ → ℕ → Option Pair
-rows_at n w list other s u = row (at_cube (carried n w) list u) other s u
+module _ (n : ℕ) (w : List ℕ) (other : List ℕ) (s : ℕ) where
+  -- what cube u gives, and what the pairs from there on do
+  abbrev rows_at : ℕ → ℕ → ℕ → Option Pair
+  rows_at u P N = row (carried n w P N) other s u
 
-module _ (n : ℕ) (few : n ≤ 8) (w : List ℕ) (allowed : follows (straight n) [] w ≡ true) (list other : List ℕ) (s : ℕ) where
-  abbrev at : ℕ → Option Pair
-  at = rows_at n w list other s
+  unfoldable pub rows_from : ℕ → List (List ℕ) → Option PairFound
+  rows_from u ps = found (first_pair rows_at u ps)
 
-  rows_given : rows n w list other s ≡ first_some at (upto (cubes_in list))
-  unfolding rows row
-  rows_given =
-      first_flat (pair_test (dead n w) list other) (cube_pairs other s) (upto (cubes_in list))
+  rows_given : n ≤ 8 → follows (straight n) [] w ≡ true → (list : List ℕ) → found (rows n w list other s) ≡ rows_from 0 (in_pairs list)
+  unfolding rows row rows_from
+  rows_given few allowed list =
+      ap found
+      (first_flat (pair_test (dead n w) list other) (cube_pairs other s) (upto (cubes_in list))
       ∙ ap (λ (h : ℕ → Option Pair). first_some h (upto (cubes_in list))) (fun_ext same_row)
+      ∙ by_pairs rows_at list (λ u. at_cube (rows_at u) list u) 0 (λ k. let same : 0 + k ≡ k = omega arith in ap (λ (u : ℕ). at_cube (rows_at (0 + k)) list u) same))
     where
-      same_row : (u : ℕ) → first (pair_test (dead n w) list other) (cube_pairs other s u) ≡ at u
+      same_row : (u : ℕ) → first (pair_test (dead n w) list other) (cube_pairs other s u) ≡ at_cube (rows_at u) list u
       same_row u =
           first_same _ _ (cube_pairs other s u)
           (λ p i.
@@ -80,26 +147,55 @@ module _ (n : ℕ) (few : n ≤ 8) (w : List ℕ) (allowed : follows (straight n
           ap (λ (k : ℕ). at_cube (at_cube (dead n w) list k) other p.2) (ap (λ (p : Pair). p.1) x.2)
           ∙ sym (clears_dead n few w allowed (get_or list (2 * u) 0) (get_or list (2 * u + 1) 0) (get_or other (2 * p.2) 0) (get_or other (2 * p.2 + 1) 0)))
 
-  module _ (u : ℕ) (k : Seek at (cubes_in list) u) (o : Option Pair) (here : o ≡ at u) where
-    pub rows_found : u < cubes_in list → (found o).found ≡ true → rows n w list other s ≡ o
-    rows_found h e =
-        let x = found_some o e in
-        rows_given ∙ seek_found at (cubes_in list) u k h x.0 (sym here ∙ x.1) ∙ sym here
+  pub rows_end : (ps : List (List ℕ)) (u : ℕ) → length ps ≤ u → rows_from u (drop u ps) ≡ None
+  unfolding rows_from first_pair found
+  rows_end ps u h = ap (rows_from u) (drop_of_length-le ps h)
 
-    pub rows_goes : u < cubes_in list → (found o).found ≡ false → Seek at (cubes_in list) (u + 1)
-    rows_goes h e = seek_goes at (cubes_in list) u k h (sym here ∙ found_none o e)
+  module _ (ps : List (List ℕ)) (u : ℕ) (d : List ℕ) (h : u < length ps) where
+    abbrev here : Option PairFound
+    here = found (row (carried n w (get_or (get_or ps u d) 0 0) (get_or (get_or ps u d) 1 0)) other s u)
 
-  pub rows_ends : (u : ℕ) → Seek at (cubes_in list) u → cubes_in list ≤ u → rows n w list other s ≡ none
-  rows_ends u k h = rows_given ∙ seek_ends at (cubes_in list) u k h
+    step : rows_from u (drop u ps) ≡ (here else rows_from (u + 1) (drop (u + 1) ps))
+    unfolding rows_from
+    step = ap found (walk_step rows_at ps u d h) ∙ found_else _ _
+
+    pub rows_found : (p : PairFound) → here ≡ Some p → rows_from u (drop u ps) ≡ Some p
+    unfolding rows_from ◌else◌
+    rows_found p e = step ∙ ap (λ (o : Option PairFound). o else rows_from (u + 1) (drop (u + 1) ps)) e
+
+    pub rows_goes : here ≡ None → rows_from u (drop u ps) ≡ rows_from (u + 1) (drop (u + 1) ps)
+    unfolding rows_from ◌else◌
+    rows_goes e = step ∙ ap (λ (o : Option PairFound). o else rows_from (u + 1) (drop (u + 1) ps)) e
+
+-- as the code meets it
+pub rows_starts : (r : Masks) (list other : List ℕ) (s : ℕ) → Formed r → found (rows r.n (prefix r) list other s) ≡ rows_from r.n (prefix r) other s 0 (in_pairs list)
+rows_starts r list other s k = rows_given r.n (prefix r) other s k.few k.allowed list
+
+-- the walk at its start, from cube to cube and at its end
+pub ruleset walk = (rows_starts, rows_found, rows_goes, rows_end)
 
 -- ---- both lists of f
 
-pub first_dead_rows : (n q : ℕ) (f g w : List ℕ)
-    → first_dead n q f g w ≡ (rows n w (side 0 f) (side (against q 0) g) 0 else rows n w (side 1 f) (side (against q 1) g) 1)
-unfolding first_dead pairs rows first_some
-first_dead_rows n q f g w =
-    first_flat (of_pair q f g (dead n w)) (of_side q f g) (0 ∷ 1 ∷ [])
-    ∙ ap₂ (λ (a b : Option Pair). a else b) (same_list 0) (else_nothing (first (of_pair q f g (dead n w)) (of_side q f g 1)) ∙ same_list 1)
-  where
-    same_list : (s : ℕ) → first (of_pair q f g (dead n w)) (of_side q f g s) ≡ rows n w (side s f) (side (against q s) g) s
-    same_list s = first_same _ _ (of_side q f g s) (side_test q f g (dead n w) s)
+module _ (n q : ℕ) (f g w : List ℕ) where
+  abbrev on : Option Pair
+  on = rows n w (side 0 f) (side (against q 0) g) 0
+
+  abbrev off : Option Pair
+  off = rows n w (side 1 f) (side (against q 1) g) 1
+
+  by_rows : first_dead n q f g w ≡ (on else off)
+  unfolding first_dead pairs rows first_some
+  by_rows =
+      first_flat (of_pair q f g (dead n w)) (of_side q f g) (0 ∷ 1 ∷ [])
+      ∙ ap₂ (λ (a b : Option Pair). a else b) (same_list 0) (else_nothing (first (of_pair q f g (dead n w)) (of_side q f g 1)) ∙ same_list 1)
+    where
+      same_list : (s : ℕ) → first (of_pair q f g (dead n w)) (of_side q f g s) ≡ rows n w (side s f) (side (against q s) g) s
+      same_list s = first_same _ _ (of_side q f g s) (side_test q f g (dead n w) s)
+
+  pub first_dead_on : (p : PairFound) → found on ≡ Some p → found (first_dead n q f g w) ≡ Some p
+  unfolding ◌else◌
+  first_dead_on p e = ap found by_rows ∙ found_else on off ∙ ap (λ (o : Option PairFound). o else found off) e
+
+  pub first_dead_off : found on ≡ None → found (first_dead n q f g w) ≡ found off
+  unfolding ◌else◌
+  first_dead_off e = ap found by_rows ∙ found_else on off ∙ ap (λ (o : Option PairFound). o else found off) e

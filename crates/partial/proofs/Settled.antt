@@ -3,6 +3,7 @@ use Prim.Native.Nat.{ℕ}
 use mathlib.Core.Path.{sym, ◌∙◌}
 use mathlib.Core.List.{List}
 use Rattle.settled.specs.Settled.{Settled, SettledAs}
+use Rattle.partial.specs.declared.Masks.{Masks}
 use Rattle.partial.proofs.choice.Kinds as choice_kinds
 use Rattle.partial.proofs.choice.Reads as choice
 use Rattle.partial.proofs.rank.Kinds as rank_kinds
@@ -63,8 +64,8 @@ pub clears_settled : Settled 0 clears_kinds.ps clears_kinds.r clears.Post
 clears_settled κs a r₁ r₂ s₁ s₂ p q = p ∙ sym q
 
 -- a wiring is fixed by n and its choices
-pub start_settled : Settled 0 start_kinds.ps start_kinds.r start.Post
-start_settled κs a r₁ r₂ s₁ s₂ p q = p.0.is ∙ sym q.0.is
+pub start_settled : SettledAs 0 start_kinds.ps start_kinds.r (λ κs. Masks) (λ κs x s. x.masks) start.Post
+start_settled κs a r₁ r₂ s₁ s₂ p q = p.is ∙ sym q.is
 
 pub free_settled : Settled 0 free_kinds.ps free_kinds.r free.Post
 free_settled κs a r₁ r₂ s₁ s₂ p q = p ∙ sym q
@@ -72,14 +73,14 @@ free_settled κs a r₁ r₂ s₁ s₂ p q = p ∙ sym q
 pub offer_settled : Settled 0 offer_kinds.ps offer_kinds.r offer.Post
 offer_settled κs a r₁ r₂ s₁ s₂ p q = p ∙ sym q
 
-pub place_settled : Settled 0 place_kinds.ps place_kinds.r place.Post
-place_settled κs a r₁ r₂ s₁ s₂ p q = p.0.is ∙ sym q.0.is
+pub place_settled : SettledAs 0 place_kinds.ps place_kinds.r (λ κs. Masks) (λ κs x s. x.masks) place.Post
+place_settled κs a r₁ r₂ s₁ s₂ p q = p.is ∙ sym q.is
 
 pub last_settled : Settled 0 last_kinds.ps last_kinds.r last.Post
 last_settled κs a r₁ r₂ s₁ s₂ p q = p ∙ sym q
 
-pub back_settled : Settled 0 back_kinds.ps back_kinds.r back.Post
-back_settled κs a r₁ r₂ s₁ s₂ p q = p.0.is ∙ sym q.0.is
+pub back_settled : SettledAs 0 back_kinds.ps back_kinds.r (λ κs. Masks) (λ κs x s. x.masks) back.Post
+back_settled κs a r₁ r₂ s₁ s₂ p q = p.is ∙ sym q.is
 
 pub locate_settled : Settled 0 locate_kinds.ps locate_kinds.r locate.Post
 locate_settled κs a r₁ r₂ s₁ s₂ p q = p ∙ sym q

@@ -21,8 +21,8 @@ use Rattle.rules.specs.Rules.{follows, ◌adding◌}
 use Rattle.records.specs.Records.{Bytes}
 use Rattle.wirings.specs.Wirings.{input_of, inverted, straight, is_choice, uses, free_choice}
 use Rattle.wirings.specs.Pairs.{unplaced, unused}
-use Rattle.wirings.proofs.Choices.{choice_input, choice_byte, choice_below, plain_choice, place_next, free_count, uses_adding, placed_choice}
-use Rattle.partial.specs.declared.Wiring.{Wiring}
+use Rattle.wirings.proofs.Choices.{choice_input, choice_byte, choice_below, place_next, free_count, uses_adding, placed_choice}
+use Rattle.partial.specs.declared.Masks.{Masks}
 use Rattle.partial.specs.Partial.{as_number, inverts, serves, partial, prefix, StandsFor, Formed, may_place, located}
 use Rattle.partial.proofs.Joined.{number_lt, number_add, number_at, number_bytes}
 
@@ -42,34 +42,34 @@ module _ (n : ℕ) (few : n ≤ 8) (w : List ℕ) (allowed : follows (straight n
       let bits : 8 * length w ≤ 64 = omega (arith, placed_within) in
       lt_of_lt_of_le (number_lt w placed_bytes) (pow_mono bits)
 
-module _ (r : Wiring) (n : ℕ) (w : List ℕ) (s : StandsFor r n w) where
+module _ (r : Masks) (n : ℕ) (w : List ℕ) (s : StandsFor r n w) where
   pub stands_n : r.n ≡ n
   unfolding partial
-  stands_n = ap (λ (r : Wiring). r.n) s.is
+  stands_n = ap (λ (r : Masks). r.n) s.is
 
   pub stands_depth : r.depth ≡ length w
   unfolding partial
-  stands_depth = ap (λ (r : Wiring). r.depth) s.is
+  stands_depth = ap (λ (r : Masks). r.depth) s.is
 
   pub stands_unplaced : r.unplaced ≡ mask n (unplaced w)
   unfolding partial
-  stands_unplaced = ap (λ (r : Wiring). r.unplaced) s.is
+  stands_unplaced = ap (λ (r : Masks). r.unplaced) s.is
 
   pub stands_free : r.free ≡ mask n (unused w)
   unfolding partial
-  stands_free = ap (λ (r : Wiring). r.free) s.is
+  stands_free = ap (λ (r : Masks). r.free) s.is
 
   pub stands_inverted : r.inverted ≡ mask 8 (inverts w)
   unfolding partial
-  stands_inverted = ap (λ (r : Wiring). r.inverted) s.is
+  stands_inverted = ap (λ (r : Masks). r.inverted) s.is
 
   pub stands_bits : r.bits ≡ mask 64 (serves w)
   unfolding partial
-  stands_bits = ap (λ (r : Wiring). r.bits) s.is
+  stands_bits = ap (λ (r : Masks). r.bits) s.is
 
   pub stands_choices : r.choices ≡ as_number w
   unfolding partial
-  stands_choices = ap (λ (r : Wiring). r.choices) s.is
+  stands_choices = ap (λ (r : Masks). r.choices) s.is
 
   -- the choices are read back
   pub stands_prefix : prefix r ≡ w
@@ -91,7 +91,7 @@ not_zero zero h = refl
 not_zero (suc zero) h = refl
 not_zero (suc (suc b)) h = absurd (omega (arith, h))
 
-module _ (r : Wiring) (b : ℕ) (s : Formed r) where
+module _ (r : Masks) (b : ℕ) (s : Formed r) where
   -- a byte of 32 or more is no choice
   pub too_large : 32 ≤ b → false ≡ may_place r b
   too_large h =
@@ -124,11 +124,11 @@ started n h =
 
 -- ---- where a literal goes
 
-pub depth_few : (r : Wiring) → Formed r → r.depth ≤ 8
+pub depth_few : (r : Masks) → Formed r → r.depth ≤ 8
 depth_few r s = omega (arith, stands_depth r r.n (prefix r) s, placed_within r.n s.few (prefix r) s.allowed, s.few)
 
 -- the choice of a placed input is found by a shift
-pub choice_shifted : (r : Wiring) → Formed r → (i : ℕ) → i < length (prefix r) → bit_and (r.choices / 2 ^ (8 * i)) 255 ≡ get_or (prefix r) i 0
+pub choice_shifted : (r : Masks) → Formed r → (i : ℕ) → i < length (prefix r) → bit_and (r.choices / 2 ^ (8 * i)) 255 ≡ get_or (prefix r) i 0
 choice_shifted r s i h =
     and_mask (r.choices / 2 ^ (8 * i)) 8 ∙ ap (λ (c : ℕ). c / 2 ^ (8 * i) % 256) (stands_choices r r.n (prefix r) s) ∙ number_at (prefix r) (placed_bytes r.n s.few (prefix r) s.allowed) i h
 
@@ -142,7 +142,7 @@ plain_four b h = omega (arith, sixteen b)
 inverted_four : (b : ℕ) → 16 ≤ b → b < 32 → bit_and b 16 ≡ 16
 inverted_four b h l = omega (arith, sixteen b)
 
-module _ (r : Wiring) (l : ℕ) (s : Formed r) (literal : is_choice r.depth l ≡ true) where
+module _ (r : Masks) (l : ℕ) (s : Formed r) (literal : is_choice r.depth l ≡ true) where
   literal_placed : input_of l < length (prefix r)
   literal_placed = subst (λ (d : ℕ). input_of l < d) (stands_depth r r.n (prefix r) s) (choice_input r.depth (omega (arith, depth_few r s)) l literal)
 
@@ -172,10 +172,6 @@ module _ (r : Wiring) (l : ℕ) (s : Formed r) (literal : is_choice r.depth l �
           (λ (k : 16 ≤ b). simp (le-leb 16 b k) (omega (arith, xor_add_and b 16, inverted_four b k low)))
           (below_or_not b 16)))
           (below_or_not l 16)
-
--- a plain literal of a placed input
-pub input_literal : (r : Wiring) → Formed r → (i : ℕ) → i < r.depth → is_choice r.depth i ≡ true
-input_literal r s i h = (plain_choice r.depth (omega (arith, depth_few r s)) i h).0
 
 -- ---- one choice more
 
@@ -216,7 +212,7 @@ in_byte d j k h =
     (λ e. both (eq-eqb (k / 8) d (omega (arith, eqb-true k (8 * d + j) e))) (eq-eqb (k % 8) j (omega (arith, eqb-true k (8 * d + j) e))))
     (λ e. eq-eqb k (8 * d + j) (omega (arith, eqb-true (k / 8) d (both_left _ _ e), eqb-true (k % 8) j (both_right (eqb (k / 8) d) _ e))))
 
-module _ (r : Wiring) (b : ℕ) (s : Formed r) (may : may_place r b ≡ true) where
+module _ (r : Masks) (b : ℕ) (s : Formed r) (may : may_place r b ≡ true) where
   choice : is_choice r.n b ≡ true
   choice = both_left (is_choice r.n b) (free_choice (prefix r) b) may
 
@@ -301,3 +297,6 @@ module _ (r : Wiring) (b : ℕ) (s : Formed r) (may : may_place r b ≡ true) wh
         few = s.few;
         allowed = allowed_more;
       }
+
+-- one more choice fits
+pub ruleset placing = (depth_room, input_room, choices_fit)

@@ -14,7 +14,7 @@ use Rattle.rules.specs.Lists.{passed_over}
 use Rattle.rules.specs.Rules.{◌adding◌}
 use Rattle.wirings.specs.Wirings.{input_of, inverted, choices_from, choice_at, rank, is_choice, free_choice}
 use Rattle.wirings.proofs.Choices.{choice_input, choices_at, choices_length, choice_at_is, offered, offered_skip, offered_take, offered_end, free_number}
-use Rattle.partial.specs.declared.Wiring.{Wiring}
+use Rattle.partial.specs.declared.Masks.{Masks}
 use Rattle.partial.specs.Partial.{StandsFor, Formed, prefix, may_place, offer_from}
 use Rattle.partial.proofs.Standing.{stands_n, stands_depth, placed_within}
 
@@ -88,7 +88,7 @@ module _ (n : ℕ) (w : List ℕ) where
 
 -- ---- as the code meets it, with the choices in a wiring by value
 
-module _ (r : Wiring) (s : Formed r) where
+module _ (r : Masks) (s : Formed r) where
   abbrev n : ℕ
   n = r.n
 
@@ -104,7 +104,7 @@ module _ (r : Wiring) (s : Formed r) where
       ⊎_elim (λ e. absurd (h (sym depth_is ∙ e))) (λ l. l) (eq-or-lt_of_le (placed_within n s.few w s.allowed))
 
   -- after one more choice, one input less
-  pub less_left : (b : ℕ) (r' : Wiring) → StandsFor r' n (w adding b) → r'.n - r'.depth < n - r.depth
+  pub less_left : (b : ℕ) (r' : Masks) → StandsFor r' n (w adding b) → r'.n - r'.depth < n - r.depth
   less_left b r' placed =
       omega (
         arith,

@@ -1,17 +1,18 @@
 -- What the partial wiring by value stands for: a number of inputs and the list of choice bytes placed so far. And what it
 -- answers, in terms of that list.
-use Rattle.std.specs.Prelude.{ℕ, zero, suc, ◌+◌, ◌-◌, ◌*◌, ◌/◌, ◌%◌, ◌≤◌, ◌<◌, ◌≡◌, Bool, true, false, cond, not, ◌&&◌, ◌||◌, ltb, eqb, length, get_or, drop}
+use Rattle.std.specs.Prelude.{ℕ, zero, suc, ◌+◌, ◌-◌, ◌*◌, ◌/◌, ◌%◌, ◌≤◌, ◌<◌, ◌≡◌, Bool, true, cond, not, ◌&&◌, ◌||◌, ltb, eqb, length, get_or, drop}
 use mathlib.Core.List.{List, [], ◌∷◌, flat_map}
-use Rattle.std.proofs.Math.Option.{Option, none, some}
+use Rattle.std.specs.declared.option.Option.{Option}
+use Rattle.std.specs.declared.option.Option.TheVariants.{None, Some}
 use Rattle.bits.specs.Bits.{has, mask, any}
 use Rattle.cubes.specs.Cubes.{cube_names}
 use Rattle.rules.specs.Lists.{first, passed_over}
 use Rattle.rules.specs.Rules.{follows}
 use Rattle.wirings.specs.Wirings.{input_of, inverted, choices_from, is_choice, free_choice, straight}
 use Rattle.wirings.specs.Pairs.{carried_pos, carried_neg, unplaced, unused, unplaced_literal, dead, Pair, at_cube, cube_pairs, list_pairs, pair_test}
-use Rattle.partial.specs.declared.Wiring.{Wiring}
+use Rattle.partial.specs.declared.Masks.{Masks}
 use Rattle.partial.specs.declared.Carried.{Carried}
-use Rattle.partial.specs.declared.Found.{Found}
+use Rattle.partial.specs.declared.Pair.{Pair as PairFound}
 
 -- ---- the wiring
 
@@ -32,7 +33,7 @@ abbrev pub serves : List ℕ → ℕ → Bool
 serves w k = ltb (k / 8) (length w) && eqb (k % 8) (input_of (get_or w (k / 8) 0))
 
 -- the partial wiring of n inputs with the choices w
-unfoldable pub partial : ℕ → List ℕ → Wiring
+unfoldable pub partial : ℕ → List ℕ → Masks
 partial n w = record {
   n = n;
   depth = length w;
@@ -44,20 +45,20 @@ partial n w = record {
 }
 
 -- n is at most 8, and the rule of 01 allows the choices
-pub record StandsFor (r : Wiring) (n : ℕ) (w : List ℕ) : Type 0 where
+pub record StandsFor (r : Masks) (n : ℕ) (w : List ℕ) : Type 0 where
   pub is : r ≡ partial n w
   pub few : n ≤ 8
   pub allowed : follows (straight n) [] w ≡ true
 
 -- the choices that a wiring has
-abbrev pub prefix : Wiring → List ℕ
+abbrev pub prefix : Masks → List ℕ
 prefix r = as_bytes r.depth r.choices
 
-abbrev pub Formed : Wiring → Type 0
+abbrev pub Formed : Masks → Type 0
 Formed r = StandsFor r r.n (prefix r)
 
 -- a byte is a choice of n inputs whose input of g is free
-abbrev pub may_place : Wiring → ℕ → Bool
+abbrev pub may_place : Masks → ℕ → Bool
 may_place r b = is_choice r.n b && free_choice (prefix r) b
 
 -- the first place from c on, in the order of choices, whose choice may follow w; 2n if there is none
@@ -94,13 +95,13 @@ clears c P' N' = not (opposes c P' N' || any 8 (λ j. has c.free j && cube_names
 
 -- ---- the first dead pair
 
--- a pair as the struct that holds it, three zeros for none
-unfoldable pub found : Option Pair → Found
-found none = record { found = false; s = 0; u = 0; v = 0 }
-found (some p) = record { found = true; s = p.0; u = p.1; v = p.2 }
+-- a pair as the struct that holds it
+unfoldable pub found : Option Pair → Option PairFound
+found None = None
+found (Some p) = Some (record { s = p.0; u = p.1; v = p.2 })
 
 -- as in accepted records: two lists, and at most 64 cubes in each
-pub record Few (r : Found) : Type 0 where
+pub record Few (r : PairFound) : Type 0 where
   pub list : r.s ≤ 1
   pub first : r.u < 64
   pub second : r.v < 64

@@ -5,7 +5,9 @@ use Rattle.answers.specs.Answers.{packed, is_sound}
 use Rattle.records.specs.declared.Reading.{Reading}
 use Rattle.records.specs.Records.{inputs, both_read}
 use Rattle.wirings.specs.Pairs.{first_dead}
-use Rattle.partial.specs.declared.Found.{Found}
+use Rattle.std.specs.declared.option.Option.{Option}
+use Rattle.std.specs.declared.option.Option.TheVariants.{None, Some}
+use Rattle.partial.specs.declared.Pair.{Pair as PairFound}
 use Rattle.checker.specs.Checking.{choices_fault}
 use Rattle.partial.specs.Partial.{found}
 
@@ -20,8 +22,9 @@ counts_of r = r.n ∷ r.a ∷ r.b ∷ []
 -- ---- the first dead pair
 
 -- a pair as a number, 1 for none
-unfoldable pub pair_number : Found → ℕ
-pair_number r = cond r.found (2 + r.s + 256 * r.u + 65536 * r.v) 1
+unfoldable pub pair_number : Option PairFound → ℕ
+pair_number None = 1
+pair_number (Some p) = 2 + p.s + 256 * p.u + 65536 * p.v
 
 -- 0 where the records or the choices are not accepted
 unfoldable pub dead_number : List ℕ → List ℕ → List ℕ → ℕ → ℕ

@@ -11,14 +11,12 @@ use lib.Seq.{take-add, drop_at, drop-drop, get_or-drop, length-take-le}
 use Rattle.bits.specs.Bits.{any, or_zero}
 use Rattle.bits.proofs.Smallest.{found_any, none_any, smallest_narrow}
 use Rattle.cubes.specs.Cubes.{cube_holds, cubes_share, some_cube, some_holds, least_with}
-use Rattle.cubes.specs.Values.{pattern_of}
-use Rattle.cubes.specs.declared.Shared.{Shared}
-use Rattle.cubes.specs.declared.Shared.TheVariants.{Nowhere, At}
+use Rattle.std.specs.declared.option.Option.TheVariants.{None, Some}
 use Rattle.cubes.proofs.Masks.{share_masks, holds_low}
 use Rattle.cubes.proofs.Lists.{Each, each_map, each_bytes, each_take, each_drop, some_same, cube_meets, lists_meet}
 use Rattle.answers.specs.Answers.{fault_at, sound}
-use Rattle.records.specs.Records.{Bytes, inputs, on_count, off_count, cubes_at, off_at, on_list, off_list, cube_code, clash_code, clash_pattern, no_pattern, first_fault, cubes_fault, clash_fault}
-use Rattle.records.proofs.Frame.{Framed}
+use Rattle.records.specs.Records.{Bytes, inputs, on_count, off_count, cubes_at, off_at, on_list, off_list, cube_code, clash_code, clash_pattern, no_pattern, first_fault, header_fault, cubes_fault, clash_fault, record_fault}
+use Rattle.records.proofs.Frame.{Framed, header_sound, ends_at_clash}
 use Rattle.records.proofs.Codes.{Clean, code_clean}
 
 -- ---- a list has no fault exactly when each cube has none
@@ -87,16 +85,14 @@ pub code_met : (n : ℕ) (off : List ℕ) (P N : ℕ) (t : Bool) → any (2 ^ n)
 unfolding clash_code cubes_share
 code_met n off P N t e = ap {B = ℕ} (λ (t : Bool). cond t 7 0) (cube_meets (2 ^ n) (λ x. x) P N off ∙ e)
 
-module _ (n : ℕ) (off : List ℕ) (P N : ℕ) (r : Shared) (e : pattern_of r ≡ least_with n P N off) where
-  pub clash_at : (x : ℕ) → r ≡ At x → (clash_code n off P N ≡ 7) × (clash_pattern n off P N ≡ x)
-  unfolding clash_pattern least_with pattern_of or_zero
-  clash_at x h =
-      let found = sym e ∙ ap pattern_of h in
-      (code_met n off P N true (found_any (met off P N) (2 ^ n) x found), ap or_zero found)
+module _ (n : ℕ) (off : List ℕ) (P N : ℕ) where
+  pub clash_at : (x : ℕ) → Some x ≡ least_with n P N off → (clash_code n off P N ≡ 7) × (clash_pattern n off P N ≡ x)
+  unfolding clash_pattern least_with or_zero
+  clash_at x e = (code_met n off P N true (found_any (met off P N) (2 ^ n) x (sym e)), ap or_zero (sym e))
 
-  pub clash_nowhere : r ≡ Nowhere → clash_code n off P N ≡ 0
-  unfolding least_with pattern_of
-  clash_nowhere h = code_met n off P N false (none_any (met off P N) (2 ^ n) (sym e ∙ ap pattern_of h))
+  pub clash_nowhere : None ≡ least_with n P N off → clash_code n off P N ≡ 0
+  unfolding least_with
+  clash_nowhere e = code_met n off P N false (none_any (met off P N) (2 ^ n) (sym e))
 
 -- ---- the two lists of a record: what holds of each of its cubes holds of each cube of either list
 
@@ -117,10 +113,6 @@ pub all_clean : (s : List ℕ) → Bytes s → (cubes_fault s).code ≡ 0 → Cl
 all_clean s bytes e = clean_list (inputs s) (drop 5 s) 5 (λ i. subst (λ (b : ℕ). b < 2 ^ 8) (sym (get_or-drop 5 s i 0)) (bytes (5 + i))) e
 
 module _ (s : List ℕ) (framed : Framed s) where
-  -- what stands before the off list
-  pub front_long : length (take (off_at s) s) ≡ off_at s
-  front_long = length-take-le (off_at s) s (omega arith)
-
   -- the on list is what stands between the cubes' start and the off list's
   pub on_front : drop (cubes_at s) (take (off_at s) s) ≡ on_list s
   unfolding on_list
@@ -134,6 +126,13 @@ module _ (s : List ℕ) (framed : Framed s) where
     clash_by_code =
         ap (λ (on : List ℕ). first_fault (clash_code 8 (off_list s)) (clash_pattern 8 (off_list s)) on 5) on_front
         ∙ sym (clash_width (inputs s) framed.header.n_byte.most (on_list s) (off_list s) 5 (on_each _ s (all_clean s bytes cubes)) (off_each _ s (all_clean s bytes cubes)))
+
+-- so it tells the record's fault, where header and cubes have none
+pub clash_told : (s off : List ℕ) → Bytes s → (header_fault s).code ≡ 0 → (cubes_fault s).code ≡ 0 → off ≡ off_list s
+    → first_fault (clash_code 8 off) (clash_pattern 8 off) (drop (cubes_at s) (take (off_at s) s)) (cubes_at s) ≡ record_fault s
+clash_told s off bytes h c e =
+    ap (λ (l : List ℕ). first_fault (clash_code 8 l) (clash_pattern 8 l) (drop (cubes_at s) (take (off_at s) s)) (cubes_at s)) e
+    ∙ clash_by_code s (header_sound s h) bytes c ∙ sym (ends_at_clash s h c)
 
 -- ---- code 7: some on cube shares a pattern with some off cube exactly when some pattern is both on and off
 

@@ -9,7 +9,11 @@ use lib.Dec.{eqb}
 use lib.ListN.{length}
 use Rattle.answers.specs.declared.Fault.{Fault}
 use Rattle.cubes.specs.Cubes.{patterns_held, inputs_used}
-use Rattle.answers.specs.Answers.{accepted, fine, refused, sound, ◌then◌, by, length_fault}
+use Rattle.answers.specs.Answers.{accepted, fine, refused, refused_by, is_sound, sound, ◌then◌, by, length_fault}
+use Rattle.std.proofs.Common.{Ok, Err}
+use Rattle.std.specs.declared.result.Result.{Result}
+use Rattle.answers.specs.Verdicts.{verdict, unless_refused}
+use Rattle.answers.proofs.Verdicts.{refusal_first, unless_by, unless_fine, unless_coded, verdict_ok}
 use Rattle.answers.proofs.Faults.{Byte, byte_sound, byte_good, length_sound, length_good, then_both, then_next, then_stop, by_both, next_chosen, chosen}
 use Rattle.records.specs.declared.Reading.{Reading}
 use Rattle.records.specs.declared.Figures.{Figures}
@@ -74,18 +78,41 @@ both_fine f g e =
     same true q h = eqb-true _ _ q
     same false q h = absurd (omega (arith, h))
 
--- the three ways in which the reading ends
+-- the header's fault is the record's; and without a fault up to there, the on cubes decide
 pub ends_at_header : (s : List ℕ) → ((header_fault s).code ≡ 0 → ⊥) → record_fault s ≡ header_fault s
 unfolding record_fault
 ends_at_header s h = ap (λ (f : Fault). f then clash_fault s) (then_stop _ _ h) ∙ then_stop _ _ h
 
-pub ends_at_cubes : (s : List ℕ) → (header_fault s).code ≡ 0 → ((cubes_fault s).code ≡ 0 → ⊥) → record_fault s ≡ cubes_fault s
-unfolding record_fault
-ends_at_cubes s h c = ap (λ (f : Fault). f then clash_fault s) (then_next _ _ h) ∙ then_stop _ _ c
-
 pub ends_at_clash : (s : List ℕ) → (header_fault s).code ≡ 0 → (cubes_fault s).code ≡ 0 → record_fault s ≡ clash_fault s
 unfolding record_fault
 ends_at_clash s h c = ap (λ (f : Fault). f then clash_fault s) (then_next _ _ h) ∙ then_next _ _ c
+
+-- what the calls answer, by what the record's test comes to
+abbrev pub read_as : List ℕ → Result (Unit {0}) Fault → Reading
+read_as s (Ok u) = with_counts (accepted 3 (length s)) (inputs s) (on_count s) (off_count s)
+read_as s (Err f) = with_counts (refused_by 1 f) 0 0 0
+
+pub reading_by : (s : List ℕ) → reading s ≡ read_as s (verdict (record_fault s))
+unfolding reading verdict
+reading_by s = elim (is_sound (record_fault s)) as (λ t. cond t (read_as s (Ok (tt {0}))) (read_as s (Err (record_fault s))) ≡ read_as s (cond t (Ok (tt {0})) (Err (record_fault s)))) [ true ↦ refl | false ↦ refl ]
+
+abbrev pub summed_as : List ℕ → Result (Unit {0}) Fault → Figures
+summed_as s (Ok u) = with_figures (accepted 3 (length s)) (patterns_held (inputs s) (on_list s)) (patterns_held (inputs s) (off_list s)) (inputs_used (on_list s) (off_list s))
+summed_as s (Err f) = with_figures (refused_by 1 f) 0 0 0
+
+pub summing_by : (s : List ℕ) → summing s ≡ summed_as s (verdict (record_fault s))
+unfolding summing verdict
+summing_by s = elim (is_sound (record_fault s)) as (λ t. cond t (summed_as s (Ok (tt {0}))) (summed_as s (Err (record_fault s))) ≡ summed_as s (cond t (Ok (tt {0})) (Err (record_fault s)))) [ true ↦ refl | false ↦ refl ]
+
+pub both_by : (f g : List ℕ) → unless_refused (both_read f g)
+    ≡ refusal_first 1 (verdict (record_fault f)) (refusal_first 2 (verdict (record_fault g)) (cond (eqb (inputs f) (inputs g)) (Ok (tt {0})) (Err (refused 9 2 2))))
+unfolding both_read
+both_by f g =
+    unless_by 1 (record_fault f) _
+    ∙ ap (refusal_first 1 (verdict (record_fault f)))
+    (unless_by 2 (record_fault g) _
+    ∙ ap (refusal_first 2 (verdict (record_fault g)))
+    (elim (eqb (inputs f) (inputs g)) as (λ t. unless_refused (cond t fine (refused 9 2 2)) ≡ cond t (Ok (tt {0})) (Err (refused 9 2 2))) [ true ↦ unless_fine | false ↦ unless_coded 9 2 2 refl ]))
 
 -- ---- and the other way: a record of this form is accepted
 
@@ -125,6 +152,11 @@ both_good f g ok = simp (eq-eqb (record_fault f).code 0 ok.fine_f, eq-eqb (recor
 
 pub both_sound : (f g : List ℕ) → Bytes f → Bytes g → (both_read f g).code ≡ 0 → Accepted f g
 both_sound f g bytes_f bytes_g e = let x = both_fine f g e in record { bytes_f = bytes_f; bytes_g = bytes_g; fine_f = x.0; fine_g = x.1; equal = x.2 }
+
+-- as the code finds it
+pub accepted_by : (f g : List ℕ) (u v : Unit {0}) → Bytes f → Bytes g → verdict (record_fault f) ≡ Ok u → verdict (record_fault g) ≡ Ok v → inputs f ≡ inputs g → Accepted f g
+accepted_by f g u v bytes_f bytes_g p q e =
+    record { bytes_f = bytes_f; bytes_g = bytes_g; fine_f = verdict_ok _ u p; fine_g = verdict_ok _ v q; equal = e }
 
 -- both end where their headers say
 pub framed_both : (f g : List ℕ) → Accepted f g → Framed f × Framed g

@@ -6,3 +6,4 @@ pub mod Places
 pub mod Meaning
 pub mod Patterns
 pub mod Settled
+pub mod Part

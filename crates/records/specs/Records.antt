@@ -1,5 +1,5 @@
 -- Function records, in the words and the order of document 01. A record is the list of its bytes.
-use Rattle.std.specs.Prelude.{ℕ, ◌+◌, ◌*◌, ◌^◌, ◌<◌, ◌≡◌, Bool, cond, ◌&&◌, List, [], ◌∷◌, leb, eqb, length, get_or, take, drop}
+use Rattle.std.specs.Prelude.{ℕ, ◌+◌, ◌*◌, ◌^◌, ◌≤◌, ◌<◌, ◌≡◌, Bool, cond, ◌&&◌, List, [], ◌∷◌, leb, eqb, length, get_or, take, drop}
 use Rattle.bits.specs.Bits.{has, any, or_zero}
 use Rattle.cubes.specs.Cubes.{cube_names, cubes_share, some_cube, least_with, patterns_held, inputs_used}
 use Rattle.answers.specs.declared.Answer.{Answer}
@@ -82,6 +82,15 @@ clash_fault s = first_fault (clash_code (inputs s) (off_list s)) (clash_pattern 
 
 unfoldable pub record_fault : List ℕ → Fault
 record_fault s = header_fault s then cubes_fault s then clash_fault s
+
+-- what a record without a fault is known to be: it has its header, in its ranges, and ends where that says
+pub record Sized (s : List ℕ) : Type 0 where
+  pub there : 5 ≤ length s
+  pub least : 1 ≤ inputs s
+  pub most : inputs s ≤ 8
+  pub on_most : on_count s ≤ 64
+  pub off_most : off_count s ≤ 64
+  pub ends : record_end s ≡ length s
 
 -- ---- what the calls answer
 

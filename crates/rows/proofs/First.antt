@@ -51,18 +51,21 @@ module _ (said : List Says) (R : Fault → Type 0)
   from (suc left) k e before =
       subst (λ (rest : List Says). R (first_faulty (take k said) rest)) (sym (drop-cons said k nothing there))
       (chosen_elim R (code_at said k) _ _
-      (λ bad. subst (λ (m : ℕ). R (fault (code_at said k) (m + 1))) (sym (length-take-le k said (omega (arith, e)))) (at_fault k there before bad))
+      (λ bad. subst (λ (m : ℕ). R (fault (code_at said k) (m + 1))) (sym (length-take-le k said (omega (arith, e))))
+      (at_fault k there before bad))
       (λ good. next (is_end (line_at said k)) refl good (λ b. from left (suc k) (omega (arith, e)) b)))
     where
       there : k < length said
       there = omega (arith, e)
 
-      next : (t : Bool) → is_end (line_at said k) ≡ t → code_at said k ≡ 0 → (AllPassed said (suc k) → R (first_faulty (take (suc k) said) (drop (suc k) said)))
+      next : (t : Bool) → is_end (line_at said k) ≡ t → code_at said k ≡ 0
+          → (AllPassed said (suc k) → R (first_faulty (take (suc k) said) (drop (suc k) said)))
           → R (cond t sound (first_faulty (take k said ++ (line_at said k ∷ [])) (drop (suc k) said)))
       next true q good on = at_end k there before good q
       next false q good on =
           subst (λ (front : List Says). R (first_faulty front (drop (suc k) said))) (take-suc said k nothing there)
-          (on (λ j h. ⊎_elim (λ (s : j ≡ k). subst (Passed said) (sym s) (record { sound_line = good; goes_on = q })) (λ (l : j < k). before j l) (below_suc h)))
+          (on (λ j h. ⊎_elim (λ (s : j ≡ k). subst (Passed said) (sym s) (record { sound_line = good; goes_on = q }))
+          (λ (l : j < k). before j l) (below_suc h)))
 
   pub walk : R (first_faulty [] said)
   walk = from (length said) 0 (omega arith) (λ j h. absurd (omega (arith, h)))
@@ -76,7 +79,8 @@ pub record FirstFaulty (said : List Says) (code line : ℕ) : Type 0 where
   pub before : AllPassed said index
   pub here : ((index < length said) × (code_at said index ≡ code)) ⊎ ((index ≡ length said) × (code ≡ 21))
 
-pub first_faulty_named : (text : List ℕ) → ((table_fault text).code ≡ 0 → ⊥) → FirstFaulty (map says (lines text)) (table_fault text).code (table_fault text).place
+pub first_faulty_named : (text : List ℕ) → ((table_fault text).code ≡ 0 → ⊥)
+    → FirstFaulty (map says (lines text)) (table_fault text).code (table_fault text).place
 unfolding table_fault
 first_faulty_named text = named
   where
@@ -89,9 +93,21 @@ first_faulty_named text = named
     named : Named (first_faulty [] said)
     named =
         walk said Named
-        (λ k there passed _ _. record { index = k; number = refl; within = omega (arith, there); before = passed; here = inl (there, refl) })
+        (λ k there passed _ _. record {
+          index = k;
+          number = refl;
+          within = omega (arith, there);
+          before = passed;
+          here = inl (there, refl);
+        })
         (λ k there passed good ends bad. absurd (bad refl))
-        (λ passed _. record { index = length said; number = refl; within = omega arith; before = passed; here = inr (refl, refl) })
+        (λ passed _. record {
+          index = length said;
+          number = refl;
+          within = omega arith;
+          before = passed;
+          here = inr (refl, refl);
+        })
 
 -- ---- a text without fault: an end without fault, before which no line is at fault
 
@@ -112,7 +128,9 @@ whole_if text =
 
 pub whole_sound : (text : List ℕ) → Whole (map says (lines text)) → table_fault text ≡ sound
 unfolding table_fault
-whole_sound text w = walk said (λ (f : Fault). f ≡ sound) at_fault (λ k there passed good ends. refl) (λ passed. absurd (early (passed w.index w.within)))
+whole_sound text w =
+    walk said (λ (f : Fault). f ≡ sound) at_fault (λ k there passed good ends. refl)
+    (λ passed. absurd (early (passed w.index w.within)))
   where
     said : List Says
     said = map says (lines text)
@@ -124,15 +142,19 @@ whole_sound text w = walk said (λ (f : Fault). f ≡ sound) at_fault (λ k ther
     at_fault k there passed bad =
         absurd
         (⊎_elim (λ (l : k < w.index). bad (w.before k l).sound_line)
-        (λ (l : w.index ≤ k). ⊎_elim (λ (s : w.index ≡ k). bad (subst (λ (j : ℕ). code_at said j ≡ 0) s w.sound_end)) (λ (m : w.index < k). early (passed w.index m)) (eq-or-lt_of_le l))
+        (λ (l : w.index ≤ k). ⊎_elim (λ (s : w.index ≡ k). bad (subst (λ (j : ℕ). code_at said j ≡ 0) s w.sound_end))
+        (λ (m : w.index < k). early (passed w.index m)) (eq-or-lt_of_le l))
         (below_or_not k w.index))
 
 -- what the lines before that end say is what the record is made of
-front_is : (said : List Says) (k : ℕ) → k < length said → ((j : ℕ) → j < k → is_end (line_at said j) ≡ false) → is_end (line_at said k) ≡ true → up_to_end said ≡ take k said
+front_is : (said : List Says) (k : ℕ) → k < length said → ((j : ℕ) → j < k → is_end (line_at said j) ≡ false)
+    → is_end (line_at said k) ≡ true → up_to_end said ≡ take k said
 unfolding up_to_end
 front_is [] k h f e = absurd (omega (arith, h))
 front_is (s ∷ said) zero h f e = simp e
-front_is (s ∷ said) (suc k) h f e = simp (f 0 (omega arith)) (ap (λ (l : List Says). s ∷ l) (front_is said k (omega (arith, h)) (λ j l. f (suc j) (omega (arith, l))) e))
+front_is (s ∷ said) (suc k) h f e =
+    simp (f 0 (omega arith))
+    (ap (λ (l : List Says). s ∷ l) (front_is said k (omega (arith, h)) (λ j l. f (suc j) (omega (arith, l))) e))
 
 pub whole_front : (said : List Says) (w : Whole said) → up_to_end said ≡ take w.index said
 whole_front said w = front_is said w.index w.within (λ j h. (w.before j h).goes_on) w.ends
@@ -185,6 +207,9 @@ code_in_order said (term w ws) = turned (complete said) (well_formed (told dot_i
     turned true true = refl
     turned true false = refl
     turned false u = refl
-code_in_order said end = elim (complete said) as (λ t. ◌≡◌ {A = ℕ} (cond t (cond (miscounted said) 22 0) 21) (cond (not t) 21 (cond (miscounted said) 22 0))) [ true ↦ refl | false ↦ refl ]
+code_in_order said end =
+    elim (complete said) as
+    (λ t. ◌≡◌ {A = ℕ} (cond t (cond (miscounted said) 22 0) 21) (cond (not t) 21 (cond (miscounted said) 22 0)))
+    [ true ↦ refl | false ↦ refl ]
 code_in_order said malformed = refl
 code_in_order said unknown = refl

@@ -2,21 +2,21 @@
 #![tactic(auto)]
 
 ghost use Rattle.std.specs.Prelude.{◌≡◌, ◌^◌, ◌<◌, length};
-ghost use Rattle.answers.specs.Answers.{fault as fault_of};
-ghost use Rattle.rows.specs.Known.{all_known, if_repeated, inputs_code, term_code, end_code, code_by, more_if, learnt, ends_with, cube_in, kept, Gathered};
+ghost use Rattle.answers.specs.Verdicts.{code_number};
+ghost use Rattle.terms.specs.Terms.{on_char, off_char};
+ghost use Rattle.rows.specs.Known.{all_known, if_repeated, inputs_code, term_code, end_code, code_by, more_if, learnt, kept, kept_by, n_at_end, Gathered};
 
-use answers::Fault;
-use terms::{Cube, Line};
+use answers::{Code, Fault};
+use terms::{Line, Term};
 
-// What the lines so far told: n of `.i`, or 0; whether `.o`, `.type` and `.p` stood, and the number of `.p`; how many terms there
-// were, and how many of them with output 1 and with output 0.
-#[derive(Clone, Copy)]
+// What the lines so far told: n of `.i` and the number of `.p`, where they stood; whether `.o` and `.type` stood; how many terms
+// there were, and how many of them with output 1 and with output 0.
+#[derive(Clone, Copy, PartialEq, Eq)]
 pub struct Known {
-    pub n: u8,
+    pub n: Option<u8>,
     pub one: bool,
     pub fr: bool,
-    pub counted: bool,
-    pub told: u64,
+    pub told: Option<u64>,
     pub terms: u64,
     pub on: usize,
     pub off: usize,
@@ -26,223 +26,152 @@ pub struct Known {
 fn complete(known: Known) -> bool
     ensures { result ≡ all_known known }
 {
-    if known.n == 0 {
-        return false;
-    }
-    if !known.one {
-        return false;
-    }
-    known.fr
+    known.n.is_some() && known.one && known.fr
 }
 
-// 20 for a keyword that stood before.
-fn repeated(stood: bool) -> u8
-    ensures { result ≡ if_repeated stood }
+// A keyword that stood before is one too many.
+fn repeated(stood: bool) -> Option<Code>
+    ensures { code_number result ≡ if_repeated stood }
 {
-    if stood {
-        return 20;
-    }
-    0
+    stood.then_some(Code::BadLine)
 }
 
-// The code of `.i` with number v, where n was told before, or 0.
-fn inputs_fault(n: u8, v: u64) -> u8
-    ensures { result ≡ inputs_code n v }
+// What is wrong with `.i` and number v, where n was told before, or not.
+fn inputs_code(n: Option<u8>, v: u64) -> Option<Code>
+    ensures { code_number result ≡ inputs_code n v }
 {
-    if 0 < n {
-        return 20;
+    match (n, v) {
+        (Some(_), _) => Some(Code::BadLine),
+        (None, 1..=8) => None,
+        (None, _) => Some(Code::BadN),
     }
-    if v < 1 {
-        return 3;
-    }
-    if 8 < v {
-        return 3;
-    }
-    0
 }
 
-// The code of a term line of n inputs.
-fn term_fault(known: Known, n: u8) -> u8
-    ensures { result ≡ term_code known n }
+// What is wrong with a term line.
+fn term_code(known: Known, term: Option<Term>) -> Option<Code>
+    ensures { code_number result ≡ term_code known term }
 {
     if !complete(known) {
-        return 21;
+        return Some(Code::Keyword);
     }
-    if n == known.n {
-        return 0;
+    match term {
+        Some(term) if Some(term.n) == known.n => None,
+        _ => Some(Code::BadLine),
     }
-    20
 }
 
-// The code of `.e`.
-fn end_fault(known: Known) -> u8
-    ensures { result ≡ end_code known }
+// What is wrong with `.e`.
+fn end_code(known: Known) -> Option<Code>
+    ensures { code_number result ≡ end_code known }
 {
     if !complete(known) {
-        return 21;
+        return Some(Code::Keyword);
     }
-    if !known.counted {
-        return 0;
+    match known.told {
+        Some(told) if told != known.terms => Some(Code::TermCount),
+        _ => None,
     }
-    if known.terms == known.told {
-        return 0;
-    }
-    22
 }
 
-// The code of a line, or 0.
-fn judge(known: Known, line: Line) -> u8
-    ensures { result ≡ code_by known line }
+// What is wrong with a line, if anything is.
+fn judge(known: Known, line: Line) -> Option<Code>
+    ensures { code_number result ≡ code_by known line }
 {
     match line {
-        Line::Nothing => 0,
-        Line::Inputs(v) => inputs_fault(known.n, v),
+        Line::Nothing => None,
+        Line::Inputs(v) => inputs_code(known.n, v),
         Line::Output => repeated(known.one),
         Line::Fr => repeated(known.fr),
-        Line::Terms(_) => repeated(known.counted),
-        Line::Term(cube) => term_fault(known, cube.n),
-        Line::End => end_fault(known),
-        Line::Malformed => 20,
-        Line::Unknown => 21,
+        Line::Terms(_) => repeated(known.told.is_some()),
+        Line::Term(term) => term_code(known, term),
+        Line::End => end_code(known),
+        Line::Malformed => Some(Code::BadLine),
+        Line::Unknown => Some(Code::Keyword),
     }
 }
 
-// One more, if the character is that.
-fn more(out: u8, c: u8, count: usize) -> usize
-    requires { count < 2 ^ 63 }
-    ensures { result ≡ more_if out c count }
-{
-    if out == c {
-        return count + 1;
-    }
-    count
-}
-
-// What is known after a line.
+// What is known after a line that has no fault.
 fn learn(known: Known, line: Line) -> Known
     requires terms_bound { known.terms < 2 ^ 63 }
     requires on_bound { known.on < 2 ^ 63 }
     requires off_bound { known.off < 2 ^ 63 }
     ensures { result ≡ learnt known line }
 {
-    let mut next = known;
     match line {
-        Line::Nothing => next,
-        Line::Inputs(v) => {
-            next.n = (v % 256) as u8;
-            next
-        }
-        Line::Output => {
-            next.one = true;
-            next
-        }
-        Line::Fr => {
-            next.fr = true;
-            next
-        }
-        Line::Terms(k) => {
-            next.counted = true;
-            next.told = k;
-            next
-        }
-        Line::Term(cube) => {
-            next.terms = known.terms + 1;
-            next.on = more(cube.out, b'1', known.on);
-            next.off = more(cube.out, b'0', known.off);
-            next
-        }
-        Line::End => next,
-        Line::Malformed => next,
-        Line::Unknown => next,
+        Line::Inputs(v) => Known {
+            n: Some((v % 256) as u8),
+            ..known
+        },
+        Line::Output => Known { one: true, ..known },
+        Line::Fr => Known { fr: true, ..known },
+        Line::Terms(k) => Known {
+            told: Some(k),
+            ..known
+        },
+        Line::Term(Some(term)) => Known {
+            terms: known.terms + 1,
+            on: known.on + (term.out == b'1') as usize,
+            off: known.off + (term.out == b'0') as usize,
+            ..known
+        },
+        _ => known,
     }
 }
 
-// Whether a line is `.e`.
-fn ends(line: Line) -> bool
-    ensures { result ≡ ends_with line }
-{
-    match line {
-        Line::Nothing => false,
-        Line::Inputs(_) => false,
-        Line::Output => false,
-        Line::Fr => false,
-        Line::Terms(_) => false,
-        Line::Term(_) => false,
-        Line::End => true,
-        Line::Malformed => false,
-        Line::Unknown => false,
-    }
-}
-
-// The cube of a term line.
-fn cube(line: Line) -> Cube
-    ensures { result ≡ cube_in line }
-{
-    match line {
-        Line::Nothing => terms::none(),
-        Line::Inputs(_) => terms::none(),
-        Line::Output => terms::none(),
-        Line::Fr => terms::none(),
-        Line::Terms(_) => terms::none(),
-        Line::Term(term) => term,
-        Line::End => terms::none(),
-        Line::Malformed => terms::none(),
-        Line::Unknown => terms::none(),
-    }
-}
-
-// Keeps a cube whose output is c behind the `count` that its list has, up to 64.
-fn keep(list: &mut [u8], count: usize, cube: Cube, c: u8)
+// Keeps the cube of a term whose output is c behind the `count` that its list has, up to 64.
+fn keep(list: &mut [u8], count: usize, term: Term, c: u8)
     requires { length list.old ≡ 128 }
-    ensures { list.new ≡ kept c cube count list.old }
+    ensures { list.new ≡ kept c term count list.old }
 {
-    if cube.out != c {
-        return;
+    if term.out == c && count < 64 {
+        answers::put(list, 2 * count, &[term.cube.pos, term.cube.neg]);
     }
-    if 64 <= count {
-        return;
-    }
-    let at = 2 * count;
-    list[at] = cube.pos;
-    list[at + 1] = cube.neg;
 }
 
-// What a walk over the lines finds: the first faulty line, or n and the number of cubes of either list.
-#[derive(Clone, Copy)]
+// The same for either list, of a term line that has a term.
+fn keep_term(on: &mut [u8], off: &mut [u8], known: Known, line: Line)
+    requires on_len { length on.old ≡ 128 }
+    requires off_len { length off.old ≡ 128 }
+    ensures on_after { on.new ≡ kept_by on_char line known.on on.old }
+    ensures off_after { off.new ≡ kept_by off_char line known.off off.old }
+{
+    if let Line::Term(Some(term)) = line {
+        keep(on, known.on, term, b'1');
+        keep(off, known.off, term, b'0');
+    }
+}
+
+// n, at the end. There it is known, or the end would be at fault.
+fn end(known: Known, line: Line) -> Option<u8>
+    ensures { result ≡ n_at_end known line }
+{
+    match line {
+        Line::End => known.n,
+        _ => None,
+    }
+}
+
+// What a walk over the lines finds: n and the number of cubes of either list. The cubes lie in two lent buffers, since nothing here
+// has a heap; their number goes on beyond the room, because 4 is told only where no line is at fault.
+#[derive(Clone, Copy, PartialEq, Eq)]
 pub struct Scan {
-    pub fault: Fault,
     pub n: u8,
     pub on: usize,
     pub off: usize,
 }
 
-fn stopped(code: u8, row: usize) -> Scan
-    ensures { result.fault ≡ fault_of code row }
-{
-    Scan {
-        fault: Fault {
-            code,
-            place: row,
-            pattern: 0,
-        },
-        n: 0,
-        on: 0,
-        off: 0,
-    }
-}
-
 // Goes through the lines of a text up to the first faulty one or to `.e`, and keeps up to 64 cubes of either list.
-pub fn gather(text: &[u8], on: &mut [u8], off: &mut [u8]) -> Scan
+#[tactic(auto, using(crate::proofs::Scanned::walking))]
+pub fn gather(text: &[u8], on: &mut [u8], off: &mut [u8]) -> Result<Scan, Fault>
     requires on_len { length on.old ≡ 128 }
     requires off_len { length off.old ≡ 128 }
     ensures { Gathered text.now on.new off.new result }
 {
     let mut known = Known {
-        n: 0,
+        n: None,
         one: false,
         fr: false,
-        counted: false,
-        told: 0,
+        told: None,
         terms: 0,
         on: 0,
         off: 0,
@@ -251,29 +180,20 @@ pub fn gather(text: &[u8], on: &mut [u8], off: &mut [u8]) -> Scan
     let mut row = 1;
     while at < text.len() {
         let said = terms::says(text, at);
-        let line = said.line;
-        let code = judge(known, line);
-        if code != 0 {
-            return stopped(code, row);
+        if let Some(code) = judge(known, said.line) {
+            return Err(Fault::at(code, row));
         }
-        if ends(line) {
-            return Scan {
-                fault: Fault {
-                    code: 0,
-                    place: 0,
-                    pattern: 0,
-                },
-                n: known.n,
+        if let Some(n) = end(known, said.line) {
+            return Ok(Scan {
+                n,
                 on: known.on,
                 off: known.off,
-            };
+            });
         }
-        let term = cube(line);
-        keep(on, known.on, term, b'1');
-        keep(off, known.off, term, b'0');
-        known = learn(known, line);
+        keep_term(on, off, known, said.line);
+        known = learn(known, said.line);
         at = words::line_end(text, said.to) + 1;
         row += 1;
     }
-    stopped(21, row)
+    Err(Fault::at(Code::Keyword, row))
 }

@@ -4,7 +4,7 @@ use Prim.Native.Nat.{ℕ, zero, suc, ◌+◌}
 use mathlib.Core.Path.{◌≡◌, refl, sym, ap, ◌∙◌}
 use mathlib.Core.Bool.{Bool, true, false, cond, true≢false}
 use mathlib.Core.List.{List, [], ◌∷◌, flat_map}
-use mathlib.Core.Option.{none}
+use Rattle.std.specs.declared.option.Option.TheVariants.{None}
 use mathlib.Core.Logic.{⊎_elim}
 use native.Mathlib.Nat.{add-zero}
 use native.Mathlib.Omega.{arith}
@@ -62,7 +62,7 @@ module _ (R : Rule) (n : ℕ) where
 
     module _ (d : Death) where
       -- of dead choices nothing is lost, and a whole way that is not dead passes
-      pub cut_first : (k : ℕ) (w : List ℕ) → Reached k w → dead w ≡ true → first passes (completions R k w) ≡ none
+      pub cut_first : (k : ℕ) (w : List ℕ) → Reached k w → dead w ≡ true → first passes (completions R k w) ≡ None
       cut_first k w r p = first_none passes (completions R k w) (d.dies k w r p)
 
       pub cut_filter : (k : ℕ) (w : List ℕ) → Reached k w → dead w ≡ true → filter passes (completions R k w) ≡ []

@@ -4,8 +4,9 @@ use Prim.Native.Nat.{ℕ, zero, suc, ◌+◌, ◌*◌, ◌≤◌, ◌<◌}
 use mathlib.Core.Path.{◌≡◌, refl, sym, ap, ap₂, ◌∙◌, subst}
 use mathlib.Core.Bool.{Bool, true, false, cond, not, ◌&&◌, ◌||◌, false≢true, or_assoc}
 use mathlib.Core.List.{List, [], ◌∷◌, ◌++◌, map, flat_map}
-use mathlib.Core.Option
-use mathlib.Core.Option.{Option, none, some, some-ne-none}
+use Rattle.std.specs.Option.{option_map}
+use Rattle.std.specs.declared.option.Option.{Option}
+use Rattle.std.specs.declared.option.Option.TheVariants.{None, Some}
 use mathlib.Core.Logic.{◌⊎◌, inl, inr, ⊎_elim}
 use native.Mathlib.Nat.{zero-mul, suc-mul, add_comm, le_of_suc-le-suc, not-suc-le-zero}
 use native.Mathlib.Omega.{arith}
@@ -188,55 +189,55 @@ module _ {A : Type 0} (t u : A → Bool) where
   pub first_same : (l : List A) → ((x : A) → In x l → t x ≡ u x) → first t l ≡ first u l
   unfolding In first
   first_same [] h = refl
-  first_same (x ∷ l) h = ap₂ (λ (b : Bool) (o : Option A). cond b (some x) o) (h x (inl refl)) (first_same l (λ y i. h y (inr i)))
+  first_same (x ∷ l) h = ap₂ (λ (b : Bool) (o : Option A). cond b (Some x) o) (h x (inl refl)) (first_same l (λ y i. h y (inr i)))
 
 -- ---- the first that passes
 
 -- what the one gives, else the other
 infixr 60 ◌else◌
 unfoldable pub ◌else◌ : {A : Type 0} → Option A → Option A → Option A
-none else o = o
-some x else o = some x
+None else o = o
+Some x else o = Some x
 
 -- the first that gives something
 unfoldable pub first_some : {A B : Type 0} → (A → Option B) → List A → Option B
-first_some f [] = none
+first_some f [] = None
 first_some f (x ∷ l) = f x else first_some f l
 
 module _ {A : Type 0} (t : A → Bool) where
   -- nothing is found exactly where no element passes, and what is found is an element that passes
-  pub first_none : (l : List A) → ((x : A) → In x l → t x ≡ false) → first t l ≡ none
+  pub first_none : (l : List A) → ((x : A) → In x l → t x ≡ false) → first t l ≡ None
   unfolding In first
   first_none [] h = refl
   first_none (x ∷ l) h = simp (h x (inl refl)) (first_none l (λ y i. h y (inr i)))
 
-  pub first_found : (x : A) (l : List A) → first t l ≡ some x → In x l × (t x ≡ true)
+  pub first_found : (x : A) (l : List A) → first t l ≡ Some x → In x l × (t x ≡ true)
   unfolding In first
-  first_found x [] e = absurd (some-ne-none x (sym e))
+  first_found x [] e = cc
   first_found x (y ∷ l) e = go (t y) refl e (λ d. first_found x l d)
     where
-      go : (b : Bool) → t y ≡ b → cond b (some y) (first t l) ≡ some x → (first t l ≡ some x → In x l × (t x ≡ true)) → In x (y ∷ l) × (t x ≡ true)
+      go : (b : Bool) → t y ≡ b → cond b (Some y) (first t l) ≡ Some x → (first t l ≡ Some x → In x l × (t x ≡ true)) → In x (y ∷ l) × (t x ≡ true)
       go true p d later = let q : x ≡ y = cc in (inl q, ap t q ∙ p)
       go false p d later = (inr (later d).0, (later d).1)
 
-  pub first_exists : (l : List A) → some_in t l ≡ true → (x : A) × (first t l ≡ some x)
+  pub first_exists : (l : List A) → some_in t l ≡ true → (x : A) × (first t l ≡ Some x)
   unfolding some_in first
   first_exists [] p = absurd (false≢true p)
   first_exists (y ∷ l) p = go (t y) p (λ q. first_exists l q)
     where
-      go : (b : Bool) → b || some_in t l ≡ true → (some_in t l ≡ true → (x : A) × (first t l ≡ some x)) → (x : A) × (cond b (some y) (first t l) ≡ some x)
+      go : (b : Bool) → b || some_in t l ≡ true → (some_in t l ≡ true → (x : A) × (first t l ≡ Some x)) → (x : A) × (cond b (Some y) (first t l) ≡ Some x)
       go true q later = (y, refl)
       go false q later = later q
 
-  pub none_first : (x : A) (l : List A) → first t l ≡ none → In x l → t x ≡ false
-  none_first x l e i = not_passed (t x) (λ p. let w = first_exists l (some_if t x l i p) in some-ne-none w.0 (sym w.1 ∙ e))
+  pub none_first : (x : A) (l : List A) → first t l ≡ None → In x l → t x ≡ false
+  none_first x l e i = not_passed (t x) (λ p. let w = first_exists l (some_if t x l i p) in let d : Some w.0 ≡ None = sym w.1 ∙ e in cc)
 
   -- of two lists joined, the first that passes is that of the one, else that of the other
   pub first_append : (l m : List A) → first t (l ++ m) ≡ (first t l else first t m)
   unfolding first ◌else◌
   first_append [] m = refl
   first_append (x ∷ l) m =
-      elim (t x) as (λ b. cond b (some x) (first t (l ++ m)) ≡ (cond b (some x) (first t l) else first t m)) [ true ↦ refl | false ↦ first_append l m ]
+      elim (t x) as (λ b. cond b (Some x) (first t (l ++ m)) ≡ (cond b (Some x) (first t l) else first t m)) [ true ↦ refl | false ↦ first_append l m ]
 
 module _ {A B : Type 0} (t : B → Bool) where
   -- the first that passes of a list made of others
@@ -245,11 +246,11 @@ module _ {A B : Type 0} (t : B → Bool) where
   first_flat f [] = refl
   first_flat f (x ∷ l) = first_append t (f x) (flat_map f l) ∙ ap (λ (o : Option B). first t (f x) else o) (first_flat f l)
 
-  pub first_map : (f : A → B) (l : List A) → first t (map f l) ≡ Option.map f (first (λ x. t (f x)) l)
+  pub first_map : (f : A → B) (l : List A) → first t (map f l) ≡ option_map f (first (λ x. t (f x)) l)
   unfolding first
   first_map f [] = refl
   first_map f (x ∷ l) =
-      elim (t (f x)) as (λ b. cond b (some (f x)) (first t (map f l)) ≡ Option.map f (cond b (some x) (first (λ x. t (f x)) l))) [ true ↦ refl | false ↦ first_map f l ]
+      elim (t (f x)) as (λ b. cond b (Some (f x)) (first t (map f l)) ≡ option_map f (cond b (Some x) (first (λ x. t (f x)) l))) [ true ↦ refl | false ↦ first_map f l ]
 
 module _ {A : Type 0} (t : A → Bool) (x : A) where
   -- x stands in the list after elements none of which passes
@@ -257,12 +258,12 @@ module _ {A : Type 0} (t : A → Bool) (x : A) where
   AfterNone l = (l₁ : List A) × (l₂ : List A) × (l ≡ l₁ ++ (x ∷ l₂)) × ((y : A) → In y l₁ → t y ≡ false)
 
   -- so does the first that passes
-  pub first_after : (l : List A) → first t l ≡ some x → AfterNone l
+  pub first_after : (l : List A) → first t l ≡ Some x → AfterNone l
   unfolding In first
-  first_after [] e = absurd (some-ne-none x (sym e))
+  first_after [] e = cc
   first_after (y ∷ l) e = go (t y) refl e (λ d. first_after l d)
     where
-      go : (b : Bool) → t y ≡ b → cond b (some y) (first t l) ≡ some x → (first t l ≡ some x → AfterNone l) → AfterNone (y ∷ l)
+      go : (b : Bool) → t y ≡ b → cond b (Some y) (first t l) ≡ Some x → (first t l ≡ Some x → AfterNone l) → AfterNone (y ∷ l)
       go true p d later = ([], l, ap (λ (z : A). z ∷ l) (cc), λ z i. absurd i)
       go false p d later =
           let c = later d in

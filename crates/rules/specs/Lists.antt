@@ -1,6 +1,7 @@
 -- Lists of anything, and tests of their elements: which elements pass, the first that does, and how often one stands in a list.
 use Rattle.std.specs.Prelude.{ℕ, zero, suc, ◌+◌, Bool, true, false, cond, ◌&&◌, ◌||◌, List, [], ◌∷◌, eqb}
-use Rattle.std.proofs.Math.Option.{Option, none, some}
+use Rattle.std.specs.declared.option.Option.{Option}
+use Rattle.std.specs.declared.option.Option.TheVariants.{None, Some}
 
 -- 0, 1, .., n − 1, or from a number on, as many as asked
 unfoldable pub run : ℕ → ℕ → List ℕ
@@ -18,8 +19,8 @@ module _ {A : Type 0} where
 
   -- the first that passes
   unfoldable pub first : (A → Bool) → List A → Option A
-  first t [] = none
-  first t (x ∷ l) = cond (t x) (some x) (first t l)
+  first t [] = None
+  first t (x ∷ l) = cond (t x) (Some x) (first t l)
 
   -- how many come before the first that passes; all of them, if none does
   unfoldable pub passed_over : (A → Bool) → List A → ℕ

@@ -69,13 +69,11 @@ pub fn byte<W: Write>(to: &mut W, b: u8) -> io::Result<()>
 pub fn hex<W: Write>(to: &mut W, bytes: &[u8]) -> io::Result<()>
     ensures { OnOk result (Appends (W.contents to.old) (W.contents to.new) (hex_text bytes.now)) }
 {
-    let mut i = 0;
-    while i < bytes.len() {
+    for (i, &b) in bytes.iter().enumerate() {
         if i != 0 {
             text(to, b" ")?;
         }
-        byte(to, bytes[i])?;
-        i += 1;
+        byte(to, b)?;
     }
     Ok(())
 }

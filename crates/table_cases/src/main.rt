@@ -29,14 +29,10 @@ fn text_end(input: &[u8], at: usize) -> usize
     ensures lower_bound { at ≤ result }
     ensures upper_bound { result ≤ length input.now }
 {
-    let mut i = at;
-    while i < input.len() {
-        if input[i] == b'@' {
-            return i;
-        }
-        i += 1;
+    match input[at..].iter().position(|c| *c == b'@') {
+        Some(k) => at + k,
+        None => input.len(),
     }
-    i
 }
 
 // Case by case.
@@ -53,13 +49,6 @@ fn each<W: Write>(to: &mut W, input: &[u8]) -> io::Result<()> {
         at = end + 2;
     }
     Ok(())
-}
-
-// Room for the input.
-fn all_cases() -> [u8; 8192]
-    ensures { 8192 ≡ length result }
-{
-    [0; 8192]
 }
 
 // Writes the table of a record into a lent buffer.
@@ -103,7 +92,7 @@ fn refused<W: Write>(to: &mut W) -> io::Result<()> {
 }
 
 fn main(rt: HostRuntime) -> io::Result<()> {
-    let mut input = all_cases();
+    let mut input = answers::room::<8192>();
     let got = input::read_whole(&mut rt.stdin(), &mut input)?;
     let mut to = rt.stdout();
     each(&mut to, &input[..got])?;

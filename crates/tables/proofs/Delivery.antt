@@ -15,7 +15,10 @@ use Rattle.cubes.proofs.Lists.{Each}
 use Rattle.answers.specs.declared.Answer.{Answer}
 use Rattle.answers.specs.declared.Fault.{Fault}
 use Rattle.answers.specs.Answers.{fault, fault_at, sound, is_sound, refused, refused_by, fits, byte_fault, ◌then◌, Delivered}
-use Rattle.answers.proofs.Faults.{by_next, by_stop, then_stop, byte_good}
+use Rattle.std.proofs.Common.{Ok, Err}
+use Rattle.answers.specs.Answers.{by}
+use Rattle.answers.proofs.Faults.{by_next, by_stop, then_stop, byte_good, next_chosen}
+use Rattle.answers.proofs.Verdicts.{verdict_ok, verdict_err}
 use Rattle.rules.specs.Lists.{each_in}
 use Rattle.records.specs.Records.{first_fault, cube_code, clash_code, clash_pattern, no_pattern, header_bytes, header_fault, record_fault}
 use Rattle.records.proofs.Cubes.{first_each, each_first, clean_list, clash_width}
@@ -27,7 +30,7 @@ use Rattle.terms.specs.Terms.{Says, nothing, keyword, term, end, malformed, unkn
 use Rattle.rows.specs.Rows.{of_term, told, table_fault, said_in, cubes_with}
 use Rattle.tables.specs.Tables.{record_of, table_reading}
 use Rattle.rows.specs.declared.Scan.{Scan}
-use Rattle.rows.specs.Known.{Gathered}
+use Rattle.rows.specs.Known.{Scanned, Gathered}
 use Rattle.tables.specs.Ready.{Ready, record_reading}
 use Rattle.rows.proofs.Knows.{own_length}
 use Rattle.tables.proofs.Meaning.{term_right, terms_right, cubes_even}
@@ -185,47 +188,52 @@ ready_lists text sound_text n least most is on off on_is off_is on_few off_few =
 
 -- ---- what `read_table` makes of what was gathered
 
-module _ (text on off : List ℕ) (found : Scan) (g : Gathered text on off found) where
-  pub gathered_refused : (found.fault.code ≡ 0 → ⊥) → (r : Answer) → r ≡ refused_by 1 found.fault → (room : ℕ) → r ≡ table_reading text room
-  unfolding table_reading
-  gathered_refused bad r is room = by_stop 1 found.fault (table_fault text) r _ g.found bad is
+-- a faulty line
+pub gathered_refused : (text on off : List ℕ) (F : Fault) → Gathered text on off (Err F) → (r : Answer) → r ≡ refused_by 1 F → (room : ℕ) → r ≡ table_reading text room
+unfolding table_reading
+gathered_refused text on off F g r is room =
+    let found = verdict_err (table_fault text) F (sym g.found) in
+    by_stop 1 F (table_fault text) r _ found.is found.coded is
 
-  module _ (good : found.fault.code ≡ 0) where
-    sound_text : (table_fault text).code ≡ 0
-    sound_text = ap (λ (f : Fault). f.code) (sym g.found) ∙ good
+-- or none
+module _ (text on off : List ℕ) (found : Scan) (g : Gathered text on off (Ok found)) where
+  sound_text : (table_fault text).code ≡ 0
+  sound_text = verdict_ok (table_fault text) (tt {0}) (sym g.found)
 
-    told_range : (1 ≤ told dot_i (said_in text)) × (told dot_i (said_in text) ≤ 8)
-    told_range = let n = g.inputs_are good in (omega (arith, n.0, n.2), omega (arith, n.1, n.2))
+  k : Scanned text on off found
+  k = g.kept_both
 
-    -- the record decides
-    by_record : (room : ℕ) (r : Answer) → r ≡ record_reading (record_of text) room → r ≡ table_reading text room
-    unfolding table_reading
-    by_record room r is = by_next 1 found.fault (table_fault text) r _ g.found good is
+  told_range : (1 ≤ told dot_i (said_in text)) × (told dot_i (said_in text) ≤ 8)
+  told_range = (omega (arith, k.least, k.inputs_are), omega (arith, k.most, k.inputs_are))
 
-    pub gathered_many_on : 64 < found.on → (r : Answer) → r ≡ refused 4 1 3 → (room : ℕ) → r ≡ table_reading text room
+  -- the record decides
+  by_record : (room : ℕ) (r : Answer) → r ≡ record_reading (record_of text) room → r ≡ table_reading text room
+  unfolding table_reading by
+  by_record room r is = is ∙ sym (next_chosen (table_fault text).code _ _ sound_text)
+
+  pub gathered_many_on : 64 < found.on → (r : Answer) → r ≡ refused 4 1 3 → (room : ℕ) → r ≡ table_reading text room
+  unfolding record_of
+  gathered_many_on h r is room = by_record room r (many_on _ _ _ told_range.0 told_range.1 (omega (arith, h, k.on_count)) room r is)
+
+  module _ (on_few : found.on ≤ 64) where
+    pub gathered_many_off : 64 < found.off → (r : Answer) → r ≡ refused 4 1 4 → (room : ℕ) → r ≡ table_reading text room
     unfolding record_of
-    gathered_many_on h r is room = by_record room r (many_on _ _ _ told_range.0 told_range.1 (omega (arith, h, g.on_count good)) room r is)
+    gathered_many_off h r is room =
+        by_record room r (many_off _ _ _ told_range.0 told_range.1 (omega (arith, on_few, k.on_count)) (omega (arith, h, k.off_count)) room r is)
 
-    module _ (on_few : found.on ≤ 64) where
-      pub gathered_many_off : 64 < found.off → (r : Answer) → r ≡ refused 4 1 4 → (room : ℕ) → r ≡ table_reading text room
+    module _ (off_few : found.off ≤ 64) where
+      pub gathered_ready : Ready found.n (take (2 * found.on) on) (take (2 * found.off) off)
+      gathered_ready =
+          ready_lists text sound_text found.n k.least k.most k.inputs_are _ _ (k.on_stored on_few) (k.off_stored off_few)
+          (omega (arith, on_few, length-take (2 * found.on) on)) (omega (arith, off_few, length-take (2 * found.off) off))
+
+      record_is : record_bytes found.n (take (2 * found.on) on) (take (2 * found.off) off) ≡ record_of text
       unfolding record_of
-      gathered_many_off h r is room =
-          by_record room r (many_off _ _ _ told_range.0 told_range.1 (omega (arith, on_few, g.on_count good)) (omega (arith, h, g.off_count good)) room r is)
+      record_is i = record_bytes (k.inputs_are i) (k.on_stored on_few i) (k.off_stored off_few i)
 
-      module _ (off_few : found.off ≤ 64) where
-        pub gathered_ready : Ready found.n (take (2 * found.on) on) (take (2 * found.off) off)
-        gathered_ready =
-            let n = g.inputs_are good in
-            ready_lists text sound_text found.n n.0 n.1 n.2 _ _ (g.on_stored good on_few) (g.off_stored good off_few)
-            (omega (arith, on_few, length-take (2 * found.on) on)) (omega (arith, off_few, length-take (2 * found.off) off))
-
-        record_is : record_bytes found.n (take (2 * found.on) on) (take (2 * found.off) off) ≡ record_of text
-        unfolding record_of
-        record_is i = record_bytes ((g.inputs_are good).2 i) (g.on_stored good on_few i) (g.off_stored good off_few i)
-
-        pub gathered_delivered : (before after : List ℕ) (r : Answer)
-            → let s = record_bytes found.n (take (2 * found.on) on) (take (2 * found.off) off) in
-            Delivered (record_reading s (length before)) s before after r → Delivered (table_reading text (length before)) (record_of text) before after r
-        gathered_delivered before after r d =
-            let same = sym (by_record (length before) _ refl) in
-            subst₂ (λ (a : Answer) (s : List ℕ). Delivered a s before after r) (ap (λ (s : List ℕ). record_reading s (length before)) record_is ∙ sym same) record_is d
+      pub gathered_delivered : (before after : List ℕ) (r : Answer)
+          → let s = record_bytes found.n (take (2 * found.on) on) (take (2 * found.off) off) in
+          Delivered (record_reading s (length before)) s before after r → Delivered (table_reading text (length before)) (record_of text) before after r
+      gathered_delivered before after r d =
+          let same = sym (by_record (length before) _ refl) in
+          subst₂ (λ (a : Answer) (s : List ℕ). Delivered a s before after r) (ap (λ (s : List ℕ). record_reading s (length before)) record_is ∙ sym same) record_is d

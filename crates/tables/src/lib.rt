@@ -8,30 +8,29 @@ ghost use Rattle.writer.specs.Writing.{record_bytes};
 ghost use Rattle.tables.specs.Tables.{record_of, table_reading, table_head, table_of, table_writing};
 ghost use Rattle.tables.specs.Ready.{Ready, record_reading};
 
-use answers::{Answer, Fault};
+use answers::{Answer, Code, Fault, Kind, Of};
+use records::Record;
 
 // Stores the record of two lists of cubes, unless an on cube shares a pattern with an off cube or there is no room.
 fn deliver(n: u8, on: &[u8], off: &[u8], out: &mut [u8]) -> Answer
     requires { Ready n on.now off.now }
     ensures { Delivered (record_reading (record_bytes n on.now off.now) (length out.old)) (record_bytes n on.now off.now) out.old out.new result }
 {
-    let clash = records::clash_fault(on, 0, off);
-    if clash.code != 0 {
+    if let Err(clash) = records::clash_fault(on, 0, off) {
         return answers::refused_by(
-            1,
+            Of::F as u8,
             Fault {
-                code: clash.code,
                 place: 5 + clash.place,
-                pattern: clash.pattern,
+                ..clash
             },
         );
     }
     let long = 5 + on.len() + off.len();
     if out.len() < long {
-        return answers::refused(18, 4, long);
+        return answers::refused(Code::BufferShort as u8, Of::Out as u8, long);
     }
     writer::store(n, on, off, out);
-    answers::accepted(3, long)
+    answers::accepted(Kind::AllElse as u8, long)
 }
 
 // Reads a table into a function record. All is tested before the first byte is stored, so a refusal leaves the buffer alone.
@@ -40,16 +39,15 @@ pub fn read_table(text: &[u8], out: &mut [u8]) -> Answer
 {
     let mut on = [0u8; 128];
     let mut off = [0u8; 128];
-    let found = rows::gather(text, &mut on, &mut off);
-    let fault = found.fault;
-    if fault.code != 0 {
-        return answers::refused_by(1, fault);
-    }
+    let found = match rows::gather(text, &mut on, &mut off) {
+        Ok(found) => found,
+        Err(fault) => return answers::refused_by(Of::F as u8, fault),
+    };
     if 64 < found.on {
-        return answers::refused(4, 1, 3);
+        return answers::refused(Code::BadCount as u8, Of::F as u8, 3);
     }
     if 64 < found.off {
-        return answers::refused(4, 1, 4);
+        return answers::refused(Code::BadCount as u8, Of::F as u8, 4);
     }
     let a = 2 * found.on;
     let b = 2 * found.off;
@@ -74,9 +72,8 @@ fn put_head(n: u8, terms: u8, out: &mut [u8]) -> usize
 pub fn write_table(record: &[u8], out: &mut [u8]) -> Answer
     ensures { Delivered (table_writing «record».now (length out.old)) (table_of «record».now) out.old out.new result }
 {
-    let fault = records::record_fault(record);
-    if fault.code != 0 {
-        return answers::refused_by(1, fault);
+    if let Err(fault) = records::record_fault(record) {
+        return answers::refused_by(Of::F as u8, fault);
     }
     let n = record[2];
     let terms = record[3] + record[4];
@@ -84,11 +81,12 @@ pub fn write_table(record: &[u8], out: &mut [u8]) -> Answer
     let len = put_head(n, terms, &mut head);
     let needed = len + terms as usize * (n as usize + 3) + 3;
     if out.len() < needed {
-        return answers::refused(18, 4, needed);
+        return answers::refused(Code::BufferShort as u8, Of::Out as u8, needed);
     }
     answers::put(out, 0, &head[..len]);
-    let on_end = terms::put_terms(records::on_list(record), n, b'1', out, len);
-    let off_end = terms::put_terms(records::off_list(record), n, b'0', out, on_end);
+    let record = Record { bytes: record };
+    let on_end = terms::put_terms(record.on_list(), n, b'1', out, len);
+    let off_end = terms::put_terms(record.off_list(), n, b'0', out, on_end);
     answers::put(out, off_end, b".e\n");
-    answers::accepted(3, needed)
+    answers::accepted(Kind::AllElse as u8, needed)
 }

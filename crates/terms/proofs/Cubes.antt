@@ -26,7 +26,8 @@ pub input_cases : (Q : ℕ → Type 0) → Q off_char → Q on_char → Q dash �
 input_cases Q low high free c e =
     ⊎_elim
     (λ (digit : eqb c off_char || eqb c on_char ≡ true).
-    ⊎_elim (λ (h : eqb c off_char ≡ true). subst Q (sym (eqb-true _ _ h)) low) (λ (h : eqb c on_char ≡ true). subst Q (sym (eqb-true _ _ h)) high) (either (eqb c off_char) (eqb c on_char) digit))
+    ⊎_elim (λ (h : eqb c off_char ≡ true). subst Q (sym (eqb-true _ _ h)) low)
+    (λ (h : eqb c on_char ≡ true). subst Q (sym (eqb-true _ _ h)) high) (either (eqb c off_char) (eqb c on_char) digit))
     (λ (h : eqb c dash ≡ true). subst Q (sym (eqb-true _ _ h)) free)
     (either (eqb c off_char || eqb c on_char) (eqb c dash) e)
 
@@ -58,14 +59,19 @@ module _ (n P N : ℕ) where
   characters_long = length-map (upto n) _ ∙ run_long 0 n
 
   pub characters_inputs : each_in is_input (characters n P N) ≡ true
-  characters_inputs = each_if is_input _ (λ c i. let w = map_in _ c (upto n) i in ap is_input w.2 ∙ input_character (has P w.0) (has N w.0))
+  characters_inputs =
+      each_if is_input _ (λ c i. let w = map_in _ c (upto n) i in ap is_input w.2 ∙ input_character (has P w.0) (has N w.0))
 
   -- a mask of the inputs with one character is a number that has their bits
-  with_is : (c M : ℕ) → M < 2 ^ n → ((i : ℕ) → has M i ≡ eqb (character (has P i) (has N i)) c) → inputs_with c (characters n P N) ≡ M
+  with_is : (c M : ℕ) → M < 2 ^ n → ((i : ℕ) → has M i ≡ eqb (character (has P i) (has N i)) c)
+      → inputs_with c (characters n P N) ≡ M
   with_is c M h same =
       sym
-      (mask_is (length (characters n P N)) (λ i. eqb (get_or (characters n P N) i 0) c) M (subst (λ (k : ℕ). M < 2 ^ k) (sym characters_long) h)
-      (λ i l. same i ∙ ap (λ (k : ℕ). eqb k c) (sym (run_at _ 0 n i 0 (subst (λ (k : ℕ). i < k) characters_long l) ∙ ap (λ (k : ℕ). character (has P k) (has N k)) (omega arith)))))
+      (mask_is (length (characters n P N)) (λ i. eqb (get_or (characters n P N) i 0) c) M
+      (subst (λ (k : ℕ). M < 2 ^ k) (sym characters_long) h)
+      (λ i l. same i ∙ ap (λ (k : ℕ). eqb k c)
+      (sym (run_at _ 0 n i 0 (subst (λ (k : ℕ). i < k) characters_long l)
+      ∙ ap (λ (k : ℕ). character (has P k) (has N k)) (omega arith)))))
 
   pub on_inputs : P < 2 ^ n → inputs_with on_char (characters n P N) ≡ P
   on_inputs h = with_is on_char P h (λ i. told (has P i) (has N i))
@@ -76,7 +82,8 @@ module _ (n P N : ℕ) where
       told false false = refl
 
   pub off_inputs : N < 2 ^ n → bit_and P N ≡ 0 → inputs_with off_char (characters n P N) ≡ N
-  off_inputs h apart = with_is off_char N h (λ i. told (has P i) (has N i) (sym (has_and P N i) ∙ ap (λ (x : ℕ). has x i) apart ∙ has_zero i))
+  off_inputs h apart =
+      with_is off_char N h (λ i. told (has P i) (has N i) (sym (has_and P N i) ∙ ap (λ (x : ℕ). has x i) apart ∙ has_zero i))
     where
       told : (pos neg : Bool) → pos && neg ≡ false → neg ≡ eqb (character pos neg) off_char
       told true neg e = e

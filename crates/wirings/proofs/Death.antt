@@ -5,7 +5,7 @@ use Prim.Native.Nat.{ℕ, ◌*◌, ◌≤◌, ◌<◌}
 use mathlib.Core.Path.{◌≡◌, sym, ◌∙◌, subst}
 use mathlib.Core.Bool.{Bool, true, false, cond, not, false≢true}
 use mathlib.Core.List.{List, [], ◌∷◌}
-use mathlib.Core.Option.{none, some, some-ne-none}
+use Rattle.std.specs.declared.option.Option.TheVariants.{None, Some}
 use native.Mathlib.Nat.{le_trans}
 use native.Mathlib.Omega.{arith}
 use borrow.Author.Tests.{not-true, not-false}
@@ -74,28 +74,28 @@ some_dead n q f g w = some_in (of_pair q f g (dead n w)) (pairs q f g)
 
 module _ (n q : ℕ) (f g w : List ℕ) where
   -- where some pair is dead, a first one is found
-  pub first_exists_dead : some_dead n q f g w ≡ true → (p : Pair) × (first_dead n q f g w ≡ some p)
+  pub first_exists_dead : some_dead n q f g w ≡ true → (p : Pair) × (first_dead n q f g w ≡ Some p)
   unfolding some_dead first_dead
   first_exists_dead e = first_exists (of_pair q f g (dead n w)) (pairs q f g) e
 
   -- what is found is a dead pair
-  pub first_dead_is : (p : Pair) → first_dead n q f g w ≡ some p → In p (pairs q f g) × (of_pair q f g (dead n w) p ≡ true)
+  pub first_dead_is : (p : Pair) → first_dead n q f g w ≡ Some p → In p (pairs q f g) × (of_pair q f g (dead n w) p ≡ true)
   unfolding first_dead
   first_dead_is p e = first_found (of_pair q f g (dead n w)) p (pairs q f g) e
 
-  pub found_dead : (p : Pair) → first_dead n q f g w ≡ some p → some_dead n q f g w ≡ true
+  pub found_dead : (p : Pair) → first_dead n q f g w ≡ Some p → some_dead n q f g w ≡ true
   unfolding some_dead
   found_dead p e = let x = first_dead_is p e in some_if (of_pair q f g (dead n w)) p (pairs q f g) x.0 x.1
 
   -- no pair before it is dead: the pairs are some that are not, then it, then others
-  pub first_dead_after : (p : Pair) → first_dead n q f g w ≡ some p → AfterNone (of_pair q f g (dead n w)) p (pairs q f g)
+  pub first_dead_after : (p : Pair) → first_dead n q f g w ≡ Some p → AfterNone (of_pair q f g (dead n w)) p (pairs q f g)
   unfolding first_dead
   first_dead_after p e = first_after (of_pair q f g (dead n w)) p (pairs q f g) e
 
   -- and where none is found, none is dead
-  pub first_dead_none : first_dead n q f g w ≡ none → some_dead n q f g w ≡ false
+  pub first_dead_none : first_dead n q f g w ≡ None → some_dead n q f g w ≡ false
   unfolding some_dead
-  first_dead_none e = not_passed (some_dead n q f g w) (λ d. let p = first_exists_dead d in some-ne-none p.0 (sym p.1 ∙ e))
+  first_dead_none e = not_passed (some_dead n q f g w) (λ d. let p = first_exists_dead d in let s : Some p.0 ≡ None = sym p.1 ∙ e in cc)
 
 -- ---- whole wirings
 

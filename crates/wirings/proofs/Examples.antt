@@ -3,7 +3,7 @@ use Prim.Native.Nat.{ℕ}
 use mathlib.Core.Path.{◌≡◌, refl}
 use mathlib.Core.Bool.{Bool, true, not, ◌&&◌}
 use mathlib.Core.List.{List, [], ◌∷◌, flat_map}
-use mathlib.Core.Option.{some}
+use Rattle.std.specs.declared.option.Option.TheVariants.{Some}
 use Rattle.bits.specs.Bits.{bit, number, any, every}
 use Rattle.cubes.specs.Cubes.{some_cube, cube_holds}
 use Rattle.rules.specs.Lists.{run, filter, first, some_in}
@@ -33,12 +33,12 @@ plain v = not (some_in inverted (choices v))
 pub record Worked : Type 0 where
   -- the paper's mapping of x1, x2, x3 to y2, y3, y1'
   pub mapping_2_1 : agrees 0 f_2_1 g_2_1 (0x01 ∷ 0x02 ∷ 0x10 ∷ []) ≡ true
-  pub first_2_1 : first (agreeing f_2_1 g_2_1) (wirings 3) ≡ some (0x00 ∷ 0x10 ∷ 0x01 ∷ 0x02 ∷ [])
+  pub first_2_1 : first (agreeing f_2_1 g_2_1) (wirings 3) ≡ Some (0x00 ∷ 0x10 ∷ 0x01 ∷ 0x02 ∷ [])
   -- the paper's two assignments, of all without an inverter
   pub plain_3_2 : filter (λ v. plain v && agreeing f_3_2 g_3_2 v) (wirings 3) ≡ (0x00 ∷ 0x00 ∷ 0x02 ∷ 0x01 ∷ []) ∷ (0x00 ∷ 0x02 ∷ 0x00 ∷ 0x01 ∷ []) ∷ []
-  pub first_3_2 : first (agreeing f_3_2 g_3_2) (wirings 3) ≡ some (0x00 ∷ 0x00 ∷ 0x11 ∷ 0x02 ∷ [])
+  pub first_3_2 : first (agreeing f_3_2 g_3_2) (wirings 3) ≡ Some (0x00 ∷ 0x00 ∷ 0x11 ∷ 0x02 ∷ [])
   -- with x1 at y1 and x2 at y2, x1' x2' and y3 y1' y2' can no longer be kept apart
-  pub dead_3_2 : first_dead 3 0 f_3_2 g_3_2 (0x00 ∷ 0x01 ∷ []) ≡ some (0, 0, 1)
+  pub dead_3_2 : first_dead 3 0 f_3_2 g_3_2 (0x00 ∷ 0x01 ∷ []) ≡ Some (0, 0, 1)
 
 pub worked : Worked
 unfolding bit number any every cube_holds some_cube on_list off_list run filter first some_in flat_map completions choices_from wirings served read_at disagree_at agrees separates dead side against pairs first_dead

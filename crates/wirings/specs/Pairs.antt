@@ -2,7 +2,7 @@
 -- the cube of g.
 use Rattle.std.specs.Prelude.{ℕ, ◌+◌, ◌-◌, ◌*◌, ◌/◌, Bool, cond, not, ◌&&◌, ◌||◌, leb, eqb, length, get_or}
 use mathlib.Core.List.{List, [], ◌∷◌, map, flat_map}
-use Rattle.std.proofs.Math.Option.{Option}
+use Rattle.std.specs.declared.option.Option.{Option}
 use Rattle.bits.specs.Bits.{has, mask, any}
 use Rattle.cubes.specs.Cubes.{cube_names}
 use Rattle.rules.specs.Lists.{upto, first}

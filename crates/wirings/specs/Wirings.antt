@@ -3,7 +3,7 @@
 -- input of f.
 use Rattle.std.specs.Prelude.{ℕ, zero, suc, ◌+◌, ◌-◌, ◌*◌, ◌/◌, ◌%◌, ◌^◌, Bool, true, false, cond, not, ◌&&◌, ◌||◌, leb, ltb, eqb, length, get_or, drop}
 use mathlib.Core.List.{List, [], ◌∷◌, map, flat_map}
-use Rattle.std.proofs.Math.Option.{Option}
+use Rattle.std.specs.declared.option.Option.{Option}
 use Rattle.bits.specs.Bits.{bit, number, any, smallest}
 use Rattle.cubes.specs.Cubes.{some_holds}
 use Rattle.rules.specs.Lists.{some_in, each_in}

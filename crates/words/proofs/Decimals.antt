@@ -8,7 +8,7 @@ use native.Mathlib.Nat.{le_refl}
 use native.Mathlib.Omega.{arith}
 use borrow.Author.Tests.{lt-ltb, le-ltb, ltb-true, ltb-false, le-leb}
 use lib.Dec.{ltb}
-use lib.ListN.{length, length-append}
+use lib.ListN.{length, set, length-append}
 use lib.Seq.{sets, append_snoc}
 use Rattle.bits.proofs.Tests.{both, both_left, both_right, below_or_not}
 use Rattle.answers.proofs.Stores.{sets_join}
@@ -18,8 +18,15 @@ use Rattle.words.specs.Words.{is_digit, is_number, read_on, value, digit, decima
 -- ---- text in a buffer
 
 -- what is stored behind other text makes one text with it
-pub behind : (out front l : List ℕ) (start k : ℕ) (more : List ℕ) → l ≡ sets out start front → k ≡ start + length front → sets l k more ≡ sets out start (front ++ more)
-behind out front l start k more stored ends = ap₂ (λ (l : List ℕ) (k : ℕ). sets l k more) stored ends ∙ sets_join out front more start
+pub behind : (out front l : List ℕ) (start k : ℕ) (more : List ℕ) → l ≡ sets out start front → k ≡ start + length front
+    → sets l k more ≡ sets out start (front ++ more)
+behind out front l start k more stored ends =
+    ap₂ (λ (l : List ℕ) (k : ℕ). sets l k more) stored ends ∙ sets_join out front more start
+
+-- and so does a character
+pub one_behind : (out front : List ℕ) (start c : ℕ)
+    → set (sets out start front) (start + length front) c ≡ sets out start (front ++ (c ∷ []))
+one_behind out front start c = sets_join out front (c ∷ []) start
 
 -- ---- numbers in decimal
 
@@ -32,7 +39,8 @@ within (suc k) zero x h g = simp (lt-ltb x 10 (omega (arith, g)))
 within (suc k) (suc m) x h g = go (ltb x 10) refl (λ big. within k m (x / 10) (omega (arith, big, h)) (omega (arith, big, g)))
   where
     go : (t : Bool) → ltb x 10 ≡ t → (10 ≤ x → decimal_within k (x / 10) ≡ decimal_within m (x / 10))
-        → cond t (digit x ∷ []) (decimal_within k (x / 10) ++ (digit (x % 10) ∷ [])) ≡ cond t (digit x ∷ []) (decimal_within m (x / 10) ++ (digit (x % 10) ∷ []))
+        → cond t (digit x ∷ []) (decimal_within k (x / 10) ++ (digit (x % 10) ∷ []))
+        ≡ cond t (digit x ∷ []) (decimal_within m (x / 10) ++ (digit (x % 10) ∷ []))
     go true e again = refl
     go false e again = ap (λ (l : List ℕ). l ++ (digit (x % 10) ∷ [])) (again (ltb-false x 10 e))
 
@@ -51,6 +59,9 @@ decimal_long (suc k) h =
 pub long_length : (x : ℕ) → 10 ≤ x → length (decimal x) ≡ length (decimal (x / 10)) + 1
 long_length x h = ap length (decimal_long x h) ∙ length-append (decimal (x / 10)) (digit (x % 10) ∷ [])
 
+-- the steps of the recursion
+pub ruleset digits_stored = (decimal_short, decimal_long, long_length, one_behind)
+
 -- what holds of one digit, and of a number if it holds without the last digit, holds of every number
 module _ (P : ℕ → List ℕ → Type 0)
     (one : (x : ℕ) → x < 10 → P x (digit x ∷ []))
@@ -62,7 +73,8 @@ module _ (P : ℕ → List ℕ → Type 0)
     up_to : (k x : ℕ) → x ≤ k → P x (decimal x)
     up_to zero x h = short x (omega (arith, h))
     up_to (suc k) x h =
-        ⊎_elim (short x) (λ (big : 10 ≤ x). subst (P x) (sym (decimal_long x big)) (more x big (up_to k (x / 10) (omega (arith, big, h)))))
+        ⊎_elim (short x)
+        (λ (big : 10 ≤ x). subst (P x) (sym (decimal_long x big)) (more x big (up_to k (x / 10) (omega (arith, big, h)))))
         (below_or_not x 10)
 
     pub digit_by_digit : (x : ℕ) → P x (decimal x)
@@ -111,7 +123,9 @@ decimal_is_number =
     (λ x big again.
     let last = digit (x % 10) ∷ [] in
     both (lt-ltb 0 (length (decimal (x / 10) ++ last)) (omega (arith, length-append (decimal (x / 10)) last)))
-    (digits_last (decimal (x / 10)) (digit (x % 10)) (both_right (ltb 0 (length (decimal (x / 10)))) (each_in is_digit (decimal (x / 10))) again) (digit_is (x % 10) (omega arith))))
+    (digits_last (decimal (x / 10)) (digit (x % 10))
+    (both_right (ltb 0 (length (decimal (x / 10)))) (each_in is_digit (decimal (x / 10))) again)
+    (digit_is (x % 10) (omega arith))))
 
 -- ---- a line, word by word
 

@@ -4,13 +4,17 @@
 use Prim.Native.Nat.{ℕ, zero, suc, ◌+◌, ◌*◌, ◌/◌, ◌%◌, ◌^◌, ◌<◌}
 use mathlib.Core.Path.{◌≡◌, refl, ap, ap₂, ◌∙◌}
 use mathlib.Core.Bool.{Bool, true, false, cond}
-use mathlib.Core.List.{List, [], ◌∷◌}
-use native.Mathlib.Nat.{mod-lt, zero-lt-suc}
+use mathlib.Core.List.{List}
+use native.Mathlib.Nat.{div-div-eq-div-mul, mod-lt, zero-lt-suc}
 use native.Mathlib.Omega.{arith}
 use borrow.Author.Tests.{eqb-true}
-use lib.Bits.{bit_and, bit_or, bit_xor, and_block, or_block, xor_block, and_le_r, and_lt, or_lt, xor_lt, shifted_half, shifted_even}
+use lib.Bits.{bit_and, bit_or, bit_xor, and_block, or_block, xor_block}
+use lib.Bits.{and_le_r, and_lt, or_lt, xor_lt, shifted_half, shifted_even}
 use lib.Count.{count_trailing_zeros, under}
 use lib.Dec.{eqb}
+use lib.ListN.{length, get_or}
+use Rattle.std.specs.Int.{w64, from_le_bytes}
+use Rattle.std.proofs.lemmas.Nat.{le_bytes_8}
 use Rattle.bits.specs.Bits.{every}
 use Rattle.bits.proofs.Below.{every_at}
 use Rattle.rules.specs.Lists.{passed_over}
@@ -49,9 +53,11 @@ module _ (l s t h b : ℕ) (small : b < 256) where
   marks_step =
       ap (turned (s * 256 + 127) (t * 256 + 128)) (xor_block 8 h l b 10 small (omega arith))
       ∙ ap (λ (n : ℕ). bit_xor (bit_and (bit_or n (y * 256 + z)) (t * 256 + 128)) (t * 256 + 128)) sum
-      ∙ ap (λ (n : ℕ). bit_xor (bit_and n (t * 256 + 128)) (t * 256 + 128)) (or_block 8 (bit_and y s + s) y (bit_and z 127 + 127) z sum_lt z_lt)
+      ∙ ap (λ (n : ℕ). bit_xor (bit_and n (t * 256 + 128)) (t * 256 + 128))
+      (or_block 8 (bit_and y s + s) y (bit_and z 127 + 127) z sum_lt z_lt)
       ∙ ap (λ (n : ℕ). bit_xor n (t * 256 + 128)) (and_block 8 (bit_or (bit_and y s + s) y) t or_low 128 or_low_lt (omega arith))
-      ∙ xor_block 8 (bit_and (bit_or (bit_and y s + s) y) t) t (bit_and or_low 128) 128 (and_lt 8 or_low 128 or_low_lt (omega arith)) (omega arith)
+      ∙ xor_block 8 (bit_and (bit_or (bit_and y s + s) y) t) t (bit_and or_low 128) 128
+      (and_lt 8 or_low 128 or_low_lt (omega arith)) (omega arith)
     where
       sum : bit_and (y * 256 + z) (s * 256 + 127) + (s * 256 + 127) ≡ (bit_and y s + s) * 256 + (bit_and z 127 + 127)
       sum = ap (λ (n : ℕ). n + (s * 256 + 127)) (and_block 8 y s z 127 z_lt (omega arith)) ∙ omega arith
@@ -89,7 +95,8 @@ zeros_odd n m =
     let odd : (m * 2 + 1) % 2 ≡ 1 = omega arith in
     ap (λ (d : ℕ). under d (count_trailing_zeros n ((m * 2 + 1) / 2))) odd
 
-pub first_mark : (k x : ℕ) → count_trailing_zeros (8 * k) (marks (repeated 10 k) (repeated 127 k) (repeated 128 k) x) / 8 ≡ passed_over is_lf (bytes k x)
+pub first_mark : (k x : ℕ)
+    → count_trailing_zeros (8 * k) (marks (repeated 10 k) (repeated 127 k) (repeated 128 k) x) / 8 ≡ passed_over is_lf (bytes k x)
 unfolding count_trailing_zeros passed_over bytes repeated
 first_mark zero x = refl
 first_mark (suc k) x =
@@ -114,27 +121,8 @@ first_mark (suc k) x =
         let shifted : m * 256 + 0 ≡ m * 2 ^ 8 = omega arith in
         omega (arith, ap (count_trailing_zeros (8 + 8 * k)) shifted ∙ zeros_shl 8 (8 * k) m, e)
 
--- ---- bytes put together
+-- ---- eight bytes read as one number
 
-bytes_cons : (k h b : ℕ) → b < 256 → bytes (suc k) (h * 256 + b) ≡ b ∷ bytes k h
+pub bytes_read : (l : List ℕ) (x : ℕ) → length l ≡ 8 → ((i : ℕ) → get_or l i 0 < 256) → x ≡ from_le_bytes w64 l → bytes 8 x ≡ l
 unfolding bytes
-bytes_cons k h b small =
-    let lowest : (h * 256 + b) % 256 ≡ b = omega arith in
-    let others : (h * 256 + b) / 256 ≡ h = omega arith in
-    ap₂ (λ (a n : ℕ). a ∷ bytes k n) lowest others
-
--- eight bytes, each at its place
-pub bytes_eight : (a b c d e f g h : ℕ) → a < 256 → b < 256 → c < 256 → d < 256 → e < 256 → f < 256 → g < 256 → h < 256
-    → bytes 8 (a + 256 * b + 65536 * c + 16777216 * d + 4294967296 * e + 1099511627776 * f + 281474976710656 * g + 72057594037927936 * h)
-    ≡ a ∷ b ∷ c ∷ d ∷ e ∷ f ∷ g ∷ h ∷ []
-unfolding bytes
-bytes_eight a b c d e f g h la lb lc ld le lf lg lh =
-    ap (bytes 8) whole
-    ∙ bytes_cons 7 _ a la ∙ on a (bytes_cons 6 _ b lb ∙ on b (bytes_cons 5 _ c lc ∙ on c (bytes_cons 4 _ d ld ∙ on d (bytes_cons 3 _ e le ∙ on e (bytes_cons 2 _ f lf ∙ on f (bytes_cons 1 (0 * 256 + h) g lg ∙ on g (bytes_cons 0 0 h lh)))))))
-  where
-    whole : a + 256 * b + 65536 * c + 16777216 * d + 4294967296 * e + 1099511627776 * f + 281474976710656 * g + 72057594037927936 * h
-        ≡ (((((((0 * 256 + h) * 256 + g) * 256 + f) * 256 + e) * 256 + d) * 256 + c) * 256 + b) * 256 + a
-    whole = omega arith
-
-    on : (b : ℕ) {l m : List ℕ} → l ≡ m → b ∷ l ≡ b ∷ m
-    on b e = ap (λ (l : List ℕ). b ∷ l) e
+bytes_read l x h small read = simp div-div-eq-div-mul (le_bytes_8 l x h small read)

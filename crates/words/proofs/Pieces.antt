@@ -9,38 +9,27 @@ use native.Mathlib.Omega.{arith}
 use borrow.Author.Tests.{not-true, lt-ltb}
 use lib.Dec.{ltb}
 use lib.ListN.{length, get_or, take, drop, length-take, drop_of_length-le}
-use lib.Seq.{drop-cons, drop-length}
-use Rattle.bits.proofs.Tests.{both_left, both_right, cond_cases, below_or_not}
+use lib.Seq.{drop-cons}
+use Rattle.std.specs.List.{position_or_len}
+use Rattle.std.proofs.lemmas.List.Recursion.{is_position_or_len}
+use Rattle.std.proofs.lemmas.List.Sums.{prefix_len-le-length, passes_at_first}
+use Rattle.bits.proofs.Tests.{both_left, both_right, below_or_not}
 use Rattle.rules.specs.Lists.{filter, each_in, passed_over}
 use Rattle.words.specs.Words.{onto, pieces, before, words, bare, is_blank, is_lf, is_hash, ends_bare}
 
 module _ (p : ℕ → Bool) where
   -- ---- the place of the first character that passes: not beyond the end, the first such, and not the start if that fails
 
-  pub passed_over_within : (s : List ℕ) → passed_over p s ≤ length s
+  -- std has it under another name
+  pub is_position : (s : List ℕ) → passed_over p s ≡ position_or_len p s
   unfolding passed_over
-  passed_over_within [] = omega arith
-  passed_over_within (c ∷ s) = cond_cases (λ k. k ≤ suc (length s)) (p c) 0 (suc (passed_over p s)) (omega arith) (omega (arith, passed_over_within s))
+  is_position s = is_position_or_len (passed_over p) p refl (λ c s. ap (cond (p c) 0) (omega arith)) s
+
+  pub passed_over_within : (s : List ℕ) → passed_over p s ≤ length s
+  passed_over_within s = omega (arith, is_position s, prefix_len-le-length (λ c. not (p c)) s)
 
   pub place_passes : (s : List ℕ) → passed_over p s < length s → p (get_or s (passed_over p s) 0) ≡ true
-  unfolding passed_over
-  place_passes [] h = absurd (omega (arith, h))
-  place_passes (c ∷ s) h = go (p c) refl h (place_passes s)
-    where
-      go : (b : Bool) → p c ≡ b → cond b 0 (suc (passed_over p s)) < suc (length s) → (passed_over p s < length s → p (get_or s (passed_over p s) 0) ≡ true)
-          → p (get_or (c ∷ s) (cond b 0 (suc (passed_over p s))) 0) ≡ true
-      go true e h later = e
-      go false e h later = later (omega (arith, h))
-
-  pub before_fails : (s : List ℕ) (i : ℕ) → i < passed_over p s → p (get_or s i 0) ≡ false
-  unfolding passed_over
-  before_fails [] i h = absurd (omega (arith, h))
-  before_fails (c ∷ s) i h = go (p c) refl i h (before_fails s)
-    where
-      go : (b : Bool) → p c ≡ b → (i : ℕ) → i < cond b 0 (suc (passed_over p s)) → ((i : ℕ) → i < passed_over p s → p (get_or s i 0) ≡ false) → p (get_or (c ∷ s) i 0) ≡ false
-      go true e i h later = absurd (omega (arith, h))
-      go false e zero h later = e
-      go false e (suc i) h later = later i (omega (arith, h))
+  place_passes s h = ap (λ (k : ℕ). p (get_or s k 0)) (is_position s) ∙ passes_at_first p s 0 (omega (arith, is_position s))
 
   pub some_before : (s : List ℕ) → 0 < length s → p (get_or s 0 0) ≡ false → 0 < passed_over p s
   unfolding passed_over
@@ -54,7 +43,8 @@ module _ (p : ℕ → Bool) where
   over_from (suc k) [] h = absurd (omega (arith, h))
   over_from (suc k) (c ∷ s) h = go (p c) h (over_from k s)
     where
-      go : (b : Bool) → suc k ≤ cond b 0 (suc (passed_over p s)) → (k ≤ passed_over p s → passed_over p s ≡ k + passed_over p (drop k s))
+      go : (b : Bool) → suc k ≤ cond b 0 (suc (passed_over p s))
+          → (k ≤ passed_over p s → passed_over p s ≡ k + passed_over p (drop k s))
           → cond b 0 (suc (passed_over p s)) ≡ suc k + passed_over p (drop k s)
       go true h later = absurd (omega (arith, h))
       go false h later = omega (arith, later (omega (arith, h)))
@@ -66,7 +56,8 @@ module _ (p : ℕ → Bool) where
   before_from (suc k) [] h = refl
   before_from (suc k) (c ∷ s) h = go (p c) h (before_from k s)
     where
-      go : (b : Bool) → suc k ≤ cond b 0 (suc (passed_over p s)) → (k ≤ passed_over p s → drop k (before p s) ≡ before p (drop k s))
+      go : (b : Bool) → suc k ≤ cond b 0 (suc (passed_over p s))
+          → (k ≤ passed_over p s → drop k (before p s) ≡ before p (drop k s))
           → drop (suc k) (take (cond b 0 (suc (passed_over p s))) (c ∷ s)) ≡ before p (drop k s)
       go true h later = absurd (omega (arith, h))
       go false h later = later (omega (arith, h))
@@ -79,7 +70,8 @@ module _ (p : ℕ → Bool) where
   pieces_step (c ∷ s) h = go (p c) s (pieces_step s)
     where
       go : (b : Bool) (s : List ℕ) → (0 < length s → pieces p s ≡ before p s ∷ pieces p (drop (suc (passed_over p s)) s))
-          → cond b ([] ∷ pieces p s) (onto c (pieces p s)) ≡ take (cond b 0 (suc (passed_over p s))) (c ∷ s) ∷ pieces p (drop (suc (cond b 0 (suc (passed_over p s)))) (c ∷ s))
+          → cond b ([] ∷ pieces p s) (onto c (pieces p s))
+          ≡ take (cond b 0 (suc (passed_over p s))) (c ∷ s) ∷ pieces p (drop (suc (cond b 0 (suc (passed_over p s)))) (c ∷ s))
       go true s later = refl
       go false [] later = refl
       go false (d ∷ s) later = ap (onto c) (later (omega arith))
@@ -92,7 +84,8 @@ module _ (p : ℕ → Bool) where
   none_first a w f = (not-true (p a) (both_left (not (p a)) (none_passes w) f), both_right (not (p a)) (none_passes w) f)
 
   -- characters none of which passes, and then one that does
-  pub pieces_ended : (w : List ℕ) (c : ℕ) (s : List ℕ) → none_passes w ≡ true → p c ≡ true → pieces p (w ++ (c ∷ s)) ≡ w ∷ pieces p s
+  pub pieces_ended : (w : List ℕ) (c : ℕ) (s : List ℕ) → none_passes w ≡ true → p c ≡ true
+      → pieces p (w ++ (c ∷ s)) ≡ w ∷ pieces p s
   unfolding pieces onto
   pieces_ended [] c s f e = simp e
   pieces_ended (a ∷ w) c s f e = let n = none_first a w f in simp n.0 (ap (onto a) (pieces_ended w c s n.1 e))
@@ -117,7 +110,8 @@ module _ (p q : ℕ → Bool) where
   before_both (c ∷ s) = go (p c) (q c) refl (before_both s)
     where
       go : (a b : Bool) → q c ≡ b → before q (before p s) ≡ before either s
-          → before q (take (cond a 0 (suc (passed_over p s))) (c ∷ s)) ≡ take (cond (a || b) 0 (suc (passed_over either s))) (c ∷ s)
+          → before q (take (cond a 0 (suc (passed_over p s))) (c ∷ s))
+          ≡ take (cond (a || b) 0 (suc (passed_over either s))) (c ∷ s)
       go true b e later = refl
       go false true e later = simp e
       go false false e later = simp e (ap (λ (l : List ℕ). c ∷ l) later)
@@ -129,7 +123,9 @@ module _ (p q : ℕ → Bool) where
   over_both (c ∷ s) = go (p c) (q c) refl (over_both s)
     where
       go : (a b : Bool) → p c ≡ a → passed_over p s ≡ passed_over either s + passed_over p (drop (passed_over either s) s)
-          → cond a 0 (suc (passed_over p s)) ≡ cond (a || b) 0 (suc (passed_over either s)) + passed_over p (drop (cond (a || b) 0 (suc (passed_over either s))) (c ∷ s))
+          → cond a 0 (suc (passed_over p s))
+          ≡ cond (a || b) 0 (suc (passed_over either s))
+          + passed_over p (drop (cond (a || b) 0 (suc (passed_over either s))) (c ∷ s))
       go true b e later = simp e
       go false true e later = simp e (omega arith)
       go false false e later = omega (arith, later)
@@ -140,7 +136,8 @@ module _ (p q : ℕ → Bool) where
   over_before [] = refl
   over_before (c ∷ s) = go (p c) (q c) refl (over_before s)
     where
-      go : (a b : Bool) → p c ≡ a → passed_over p (before q s) ≡ passed_over either s → passed_over p (take (cond b 0 (suc (passed_over q s))) (c ∷ s)) ≡ cond (a || b) 0 (suc (passed_over either s))
+      go : (a b : Bool) → p c ≡ a → passed_over p (before q s) ≡ passed_over either s
+          → passed_over p (take (cond b 0 (suc (passed_over q s))) (c ∷ s)) ≡ cond (a || b) 0 (suc (passed_over either s))
       go true true e later = refl
       go false true e later = refl
       go true false e later = simp e
@@ -186,13 +183,10 @@ unfolding passed_over
 words_from [] = refl
 words_from (c ∷ s) = go (is_blank c) refl (words_from s)
   where
-    go : (b : Bool) → is_blank c ≡ b → words s ≡ words (drop (to_word s) s) → words (c ∷ s) ≡ words (drop (cond (not b) 0 (suc (to_word s))) (c ∷ s))
+    go : (b : Bool) → is_blank c ≡ b → words s ≡ words (drop (to_word s) s)
+        → words (c ∷ s) ≡ words (drop (cond (not b) 0 (suc (to_word s))) (c ∷ s))
     go true e later = blank_before c s e ∙ later
     go false e later = refl
-
--- no word where every character is a blank
-pub words_blank : (s : List ℕ) → to_word s ≡ length s → words s ≡ []
-words_blank s e = words_from s ∙ ap (λ (k : ℕ). words (drop k s)) e ∙ ap words (drop-length s) ∙ words_none
 
 -- behind a word comes a blank, or nothing
 blank_after : (s : List ℕ) → words (drop (passed_over is_blank s) s) ≡ words (drop (suc (passed_over is_blank s)) s)
@@ -203,11 +197,13 @@ blank_after s =
     (below_or_not k (length s))
 
 -- a word that begins here goes up to the next blank
-pub words_step : (s : List ℕ) → 0 < length s → is_blank (get_or s 0 0) ≡ false → words s ≡ before is_blank s ∷ words (drop (passed_over is_blank s) s)
+pub words_step : (s : List ℕ) → 0 < length s → is_blank (get_or s 0 0) ≡ false
+    → words s ≡ before is_blank s ∷ words (drop (passed_over is_blank s) s)
 unfolding filter
 words_step s h e =
     let w = before is_blank s in
     let more = words (drop (suc (passed_over is_blank s)) s) in
     ap (filter (λ w. ltb 0 (length w))) (pieces_step is_blank s h)
-    ∙ ap (λ (t : Bool). cond t (w ∷ more) more) (lt-ltb 0 (length w) (omega (arith, length-take (passed_over is_blank s) s, some_before is_blank s h e)))
+    ∙ ap (λ (t : Bool). cond t (w ∷ more) more)
+    (lt-ltb 0 (length w) (omega (arith, length-take (passed_over is_blank s) s, some_before is_blank s h e)))
     ∙ ap (λ (l : List (List ℕ)). w ∷ l) (sym (blank_after s))

@@ -9,11 +9,16 @@ use lib.Dec.{ltb, eqb}
 use lib.ListN.{length, length-append}
 use Rattle.answers.specs.declared.Answer.{Answer}
 use Rattle.cubes.proofs.Lists.{Each}
-use Rattle.records.specs.Records.{cube_code, clash_code}
-use Rattle.records.proofs.Cubes.{first_each, each_first}
-use Rattle.answers.specs.Answers.{fine, refused, sound}
+use Rattle.records.specs.Records.{Bytes, first_fault, cube_code, clash_code, clash_pattern, no_pattern}
+use Rattle.records.proofs.Cubes.{first_each, each_first, clean_list, clash_width}
+use Rattle.std.proofs.Common.{Ok, Err, ap, ap₂, ◌∙◌}
+use Rattle.std.specs.declared.result.Result.{Result}
+use Rattle.answers.specs.declared.Fault.{Fault}
+use Rattle.answers.specs.Answers.{fine, refused, sound, by, fits, ◌or_else◌}
+use Rattle.answers.specs.Verdicts.{verdict, unless_refused}
+use Rattle.answers.proofs.Verdicts.{refusal_first, unless_by, unless_fine, verdict_ok}
 use Rattle.answers.proofs.Faults.{by_both, by_next}
-use Rattle.writer.specs.Writing.{record_bytes, few, sizes, cubes}
+use Rattle.writer.specs.Writing.{record_bytes, few, sizes, cubes, writing}
 
 pub record Sized (n : ℕ) (on off : List ℕ) : Type 0 where
   pub least : 1 ≤ n
@@ -83,3 +88,39 @@ cubes_good n on off h =
     (by_next 1 sound _ _ _ (sym (each_first _ _ on 0 h.on_cubes)) refl
     (by_next 2 sound _ _ _ (sym (each_first _ _ off 0 h.off_cubes)) refl
     (by_next 1 sound _ _ _ (sym (each_first _ _ on 0 h.apart)) refl refl)))
+
+-- as the code finds it: it tests the on cubes against the off cubes with eight inputs
+pub cubes_by : (n : ℕ) (on off : List ℕ) → n ≤ 8 → Bytes on → Bytes off → unless_refused (cubes n on off)
+    ≡ refusal_first 1 (verdict (first_fault (cube_code n) no_pattern on 0))
+    (refusal_first 2 (verdict (first_fault (cube_code n) no_pattern off 0))
+    (refusal_first 1 (verdict (first_fault (clash_code 8 off) (clash_pattern 8 off) on 0)) (Ok (tt {0}))))
+unfolding cubes
+cubes_by n on off few on_bytes off_bytes =
+    unless_by 1 (first_fault (cube_code n) no_pattern on 0) _ ∙ go (verdict (first_fault (cube_code n) no_pattern on 0)) refl
+  where
+    last : Result (Unit {0}) Answer
+    last = refusal_first 1 (verdict (first_fault (clash_code 8 off) (clash_pattern 8 off) on 0)) (Ok (tt {0}))
+
+    own : List ℕ → Fault
+    own l = first_fault (cube_code n) no_pattern l 0
+
+    clash : ℕ → Fault
+    clash k = first_fault (clash_code k off) (clash_pattern k off) on 0
+
+    width : (own on).code ≡ 0 → (own off).code ≡ 0 → unless_refused (by 1 (clash n) fine) ≡ last
+    width p q =
+        unless_by 1 (clash n) fine
+        ∙ ap₂ (λ (f : Fault) (r : Result (Unit {0}) Answer). refusal_first 1 (verdict f) r) (clash_width n few on off 0 (clean_list n on 0 on_bytes p) (clean_list n off 0 off_bytes q)) unless_fine
+
+    second : (r : Result (Unit {0}) Fault) → verdict (own off) ≡ r → (own on).code ≡ 0 → refusal_first 2 r (unless_refused (by 1 (clash n) fine)) ≡ refusal_first 2 r last
+    second (Ok u) e p = width p (verdict_ok _ u e)
+    second (Err f) e p = refl
+
+    go : (r : Result (Unit {0}) Fault) → verdict (own on) ≡ r → refusal_first 1 r (unless_refused (by 2 (own off) (by 1 (clash n) fine))) ≡ refusal_first 1 r (refusal_first 2 (verdict (own off)) last)
+    go (Ok u) e = unless_by 2 (own off) _ ∙ second (verdict (own off)) refl (verdict_ok _ u e)
+    go (Err f) e = refl
+
+-- with the record's length, room is asked for
+pub writing_by : (n : ℕ) (on off : List ℕ) (room : ℕ) → writing n on off room ≡ sizes n on off or_else cubes n on off or_else fits 3 room (5 + length on + length off)
+unfolding writing
+writing_by n on off room = ap (λ (k : ℕ). sizes n on off or_else cubes n on off or_else fits 3 room k) (record_long n on off)
