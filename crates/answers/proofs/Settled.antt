@@ -3,6 +3,9 @@ use mathlib.Core.Path.{sym, ◌∙◌}
 use Rattle.settled.specs.Settled.{Settled, SettledAs}
 use mathlib.Core.List.{List}
 use Prim.Native.Nat.{ℕ}
+use mir.Val.{Fits}
+use mir.Syntax.{w64}
+use Rattle.std.proofs.lemmas.List.{ext_get_or}
 use Rattle.answers.proofs.Fault.at.Kinds as at_kinds
 use Rattle.answers.proofs.Fault.at.Reads as at
 use Rattle.answers.proofs.accepted.Kinds as accepted_kinds
@@ -19,6 +22,8 @@ use Rattle.answers.proofs.pack.Kinds as pack_kinds
 use Rattle.answers.proofs.pack.Reads as pack
 use Rattle.answers.proofs.tell.Kinds as tell_kinds
 use Rattle.answers.proofs.tell.Reads as tell
+use Rattle.answers.proofs.room.Kinds as room_kinds
+use Rattle.answers.proofs.room.Reads as room
 use Rattle.answers.proofs.put.Kinds as put_kinds
 use Rattle.answers.proofs.put.Reads as put
 use Rattle.answers.proofs.leave.Kinds as leave_kinds
@@ -59,3 +64,7 @@ leave_settled κs a r₁ r₂ s₁ s₂ p q i = ((p.returned ∙ sym q.returned)
 
 pub at_settled : Settled 0 at_kinds.ps at_kinds.r at.Post
 at_settled κs a r₁ r₂ s₁ s₂ p q = p ∙ sym q
+
+-- for every N that a usize holds
+pub room_settled : (N : ℕ) (fits : Fits w64 N) → Settled 1 (room_kinds.ps N fits) (room_kinds.r N fits) (room.Post N fits)
+room_settled N fits κs a r₁ r₂ s₁ s₂ p q = ext_get_or 0 r₁ r₂ (sym p.0 ∙ q.0) (λ i _. p.1 i ∙ sym (q.1 i))

@@ -6,12 +6,11 @@ use mathlib.Core.List.{List, [], ◌∷◌, ◌++◌}
 use borrow.Rule.Slice.PartMut.{put_mid, Post-is}
 use Rattle.std.proofs.Common.{append_assoc}
 use native.Mathlib.Nat.{add-zero, zero-add, add-suc, suc-add}
-use native.Mathlib.Numerals.{add-one}
 use native.Mathlib.Omega.{arith}
 use borrow.Author.Tests.{lt-ltb, le-ltb, ltb-false, eqb-false, le-leb, lt-leb}
 use lib.Dec.{ltb}
-use lib.ListN.{length, get_or, take, drop, set}
-use lib.Seq.{sets, sets-eq, drop-cons, take-append_seam, drop-append_seam}
+use lib.ListN.{length, take, drop, set}
+use lib.Seq.{sets, sets-eq, take-append_seam, drop-append_seam}
 use Rattle.answers.specs.declared.Answer.{Answer}
 use Rattle.answers.proofs.Faults.{next_chosen, this_chosen}
 use Rattle.answers.specs.Answers.{accepted, refused, fits, buffer_after, Delivered, stored_if_room, Leaves}

@@ -3,7 +3,7 @@
 // of its own, and then the text, up to an @ that ends a line.
 #![tactic(auto)]
 
-ghost use Rattle.std.specs.Prelude.{◌≡◌, ◌≤◌, length};
+ghost use Rattle.std.specs.Prelude.{◌≤◌};
 
 use answers::Answer;
 use std::io;
@@ -23,30 +23,14 @@ fn reads<W: Write>(to: &mut W, name: &[u8], text: &[u8]) -> io::Result<()> {
     line(to, name, answer, &out)
 }
 
-// The next @, or the input's end.
-fn text_end(input: &[u8], at: usize) -> usize
-    requires { at ≤ length input.now }
-    ensures lower_bound { at ≤ result }
-    ensures upper_bound { result ≤ length input.now }
-{
-    match input[at..].iter().position(|c| *c == b'@') {
-        Some(k) => at + k,
-        None => input.len(),
-    }
-}
-
 // Case by case.
 fn each<W: Write>(to: &mut W, input: &[u8]) -> io::Result<()> {
-    let mut at = 0;
-    while at < input.len() {
-        let head = words::line_end(input, at);
-        if input.len() <= head {
-            return Ok(());
-        }
-        let text = head + 1;
-        let end = text_end(input, text);
-        reads(to, &input[at..head], &input[text..end])?;
-        at = end + 2;
+    let mut rest = input;
+    while let Some(head) = rest.iter().position(|c| *c == b'\n') {
+        let text = &rest[head + 1..];
+        let end = text.iter().position(|c| *c == b'@').unwrap_or(text.len());
+        reads(to, &rest[..head], &text[..end])?;
+        rest = text.get(end + 2..).unwrap_or(&[]);
     }
     Ok(())
 }

@@ -1,5 +1,5 @@
 -- Scans of a text and of words: what remains from the place reached on decides.
-use Prim.Native.Nat.{ℕ, zero, suc, ◌+◌, ◌*◌, ◌-◌, ◌≤◌, ◌<◌, min}
+use Prim.Native.Nat.{ℕ, zero, suc, ◌+◌, ◌*◌, ◌-◌, ◌/◌, ◌≤◌, ◌<◌, min}
 use mathlib.Core.Path.{◌≡◌, refl, sym, ap, ◌∙◌}
 use mathlib.Core.Bool.{Bool, true, false, cond, ◌&&◌}
 use mathlib.Core.List.{List, [], ◌∷◌}
@@ -9,11 +9,11 @@ use borrow.Author.Tests.{lt-ltb}
 use lib.Dec.{eqb}
 use lib.ListN.{length, get_or, take, drop, length-drop, drop_of_length-le}
 use lib.Seq.{drop-cons, drop-drop}
-use Rattle.std.specs.Array.{IsFirstChunk}
 use Rattle.std.specs.Cmp.Lexicographic.{pointwise}
 use Rattle.std.specs.Int.{w8, w64, from_le_bytes}
 use Rattle.std.specs.List.{position}
 use Rattle.std.specs.Option.{unwrap_or}
+use Rattle.std.specs.Simd.{first_chunks}
 use Rattle.std.specs.declared.option.Option.{Option}
 use Rattle.std.specs.declared.option.Option.TheVariants.{None, Some}
 use Rattle.std.proofs.Common.{Fits}
@@ -61,28 +61,43 @@ bytes_front (suc n) [] small j = omega arith
 bytes_front (suc n) (c ∷ l) small zero = small 0
 bytes_front (suc n) (c ∷ l) small (suc j) = bytes_front n l (λ k. small (suc k)) j
 
--- the next eight characters, read as one number
-module _ (s : List ℕ) (i : ℕ) (next : List ℕ) (chunk : IsFirstChunk (take (length s - i) (drop i s)) next 8)
-    (small : (j : ℕ) → Fits w8 (get_or s j 0)) (x : ℕ) (read : x ≡ from_le_bytes w64 next) where
-  enough : 8 ≤ length (drop i s)
-  enough = omega (arith, chunk.enough, ap length (take_rest s i))
+-- a chunk of a text that is cut into chunks of eight
+chunk_at : (n i : ℕ) (l : List ℕ) → i < n → get_or (first_chunks 8 n l) i [] ≡ take 8 (drop (8 * i) l)
+chunk_at zero i l h = absurd (omega (arith, h))
+chunk_at (suc n) zero l h = refl
+chunk_at (suc n) (suc i) l h =
+    chunk_at n i (drop 8 l) (omega (arith, h)) ∙ ap (take 8) (drop-drop (8 * i) 8 l ∙ ap (λ (j : ℕ). drop j l) (omega arith))
 
-  eight : bytes 8 x ≡ take 8 (drop i s)
+-- the k-th chunk of the text from `at` on, read as one number
+module _ (s : List ℕ) (at k : ℕ) (chunks : List (List ℕ)) (x : ℕ) (small : (j : ℕ) → Fits w8 (get_or s j 0))
+    (cut : chunks ≡ first_chunks 8 (length (take (length s - at) (drop at s)) / 8) (take (length s - at) (drop at s)))
+    (count : length chunks ≡ length (take (length s - at) (drop at s)) / 8) (within : k < length chunks)
+    (read : x ≡ from_le_bytes w64 (get_or chunks k [])) where
+  abbrev from : ℕ → List ℕ
+  from i = drop (at + 8 * i) s
+
+  chunk : get_or chunks k [] ≡ take 8 (from k)
+  chunk =
+      ap (λ (c : List (List ℕ)). get_or c k []) cut ∙ chunk_at _ k _ (omega (arith, count, within))
+      ∙ ap (λ (l : List ℕ). take 8 (drop (8 * k) l)) (take_rest s at) ∙ ap (take 8) (drop-drop (8 * k) at s)
+
+  enough : 8 ≤ length (from k)
+  enough = omega (arith, count, within, ap length (take_rest s at), length-drop at s, length-drop (at + 8 * k) s)
+
+  eight : bytes 8 x ≡ take 8 (from k)
   eight =
-      bytes_read (take 8 (drop i s)) x (length-take-le 8 (drop i s) enough)
-      (bytes_front 8 (drop i s) (λ j. omega (arith, get_or-drop i s j 0, Fits-lt-pow (small (i + j)))))
-      (read ∙ ap (from_le_bytes w64) (chunk.same ∙ ap (take 8) (take_rest s i)))
+      bytes_read (take 8 (from k)) x (length-take-le 8 (from k) enough)
+      (bytes_front 8 (from k) (λ j. omega (arith, get_or-drop (at + 8 * k) s j 0, Fits-lt-pow (small (at + 8 * k + j)))))
+      (read ∙ ap (from_le_bytes w64) chunk)
 
-  -- how many of them come before the first LF, and where none is LF
-  pub eight_over : passed_over is_lf (bytes 8 x) ≡ min 8 (passed_over is_lf (drop i s))
-  eight_over = ap (passed_over is_lf) eight ∙ front_over is_lf 8 (drop i s)
+  -- how many of its characters come before the first LF, and where none is LF
+  pub eight_over : passed_over is_lf (bytes 8 x) ≡ min 8 (passed_over is_lf (from k))
+  eight_over = ap (passed_over is_lf) eight ∙ front_over is_lf 8 (from k)
 
-  pub lf_beyond : 8 ≤ passed_over is_lf (bytes 8 x)
-      → (i + 8 ≤ length s) × (passed_over is_lf (drop i s) ≡ 8 + passed_over is_lf (drop (i + 8) s))
-  lf_beyond h = (
-    omega (arith, enough, length-drop i s),
-    over_from is_lf 8 (drop i s) (omega (arith, eight_over)) ∙ ap (λ (l : List ℕ). 8 + passed_over is_lf l) (drop-drop 8 i s),
-  )
+  pub lf_beyond : 8 ≤ passed_over is_lf (bytes 8 x) → passed_over is_lf (from k) ≡ 8 + passed_over is_lf (from (k + 1))
+  lf_beyond h =
+      over_from is_lf 8 (from k) (omega (arith, h, eight_over))
+      ∙ ap (λ (l : List ℕ). 8 + passed_over is_lf l) (drop-drop 8 (at + 8 * k) s ∙ ap (λ (i : ℕ). drop i s) (omega arith))
 
 -- ---- two words compared
 

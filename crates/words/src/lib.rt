@@ -29,15 +29,14 @@ pub fn line_end(text: &[u8], at: usize) -> usize
     if text.get(at) == Some(&b'\n') {
         return at;
     }
-    let mut i = at;
-    while let Some(next) = text[i..].first_chunk::<8>() {
-        let k = first_lf(u64::from_le_bytes(*next));
-        if k < 8 {
-            return i + k;
+    let (whole, rest) = text[at..].as_chunks::<8>();
+    for (k, chunk) in whole.iter().enumerate() {
+        let lf = first_lf(u64::from_le_bytes(*chunk));
+        if lf < 8 {
+            return at + 8 * k + lf;
         }
-        i += 8;
     }
-    passed(text, i, |c| *c == b'\n')
+    passed(text, text.len() - rest.len(), |c| *c == b'\n')
 }
 
 // How many of the eight bytes of x come before the first that is LF; 8 if none is. LF is turned to 0, and any other byte to one

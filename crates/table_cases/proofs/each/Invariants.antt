@@ -1,6 +1,6 @@
--- Each case starts after the one before.
-use Rattle.std.proofs.Common.{length, ◌-◌}
+-- Each case leaves less to go through.
+use Rattle.std.proofs.Common.{length}
 use Rattle.table_cases.proofs.each.Given as goal
 
-abbrev pub decreases-loop-at : goal.decreases-loop-at
-decreases-loop-at g l = length l.input - l.at
+abbrev pub decreases-loop-head : goal.decreases-loop-head
+decreases-loop-head g l = length l.rest
