@@ -50,7 +50,22 @@ pub then_stop : (f g : Fault) → (f.code ≡ 0 → ⊥) → f then g ≡ f
 unfolding ◌then◌
 then_stop f g = this_chosen f.code g f
 
+pub then_assoc : (f g h : Fault) → f then g then h ≡ f then (g then h)
+unfolding ◌then◌
+then_assoc f g h = go (eqb f.code 0) refl
+  where
+    go : (t : Bool) → eqb f.code 0 ≡ t → cond (is_sound (cond t g f)) h (cond t g f) ≡ cond t (cond (is_sound g) h g) f
+    go true e = refl
+    go false e = simp e refl
+
 -- as a function meets them: f is the fault that it found, and g what the definition says
+pub then_met : (f g h r : Fault) → f ≡ g → f.code ≡ 0 → r ≡ h → r ≡ g then h
+then_met f g h r e z k = k ∙ sym (then_next g h (sound_as e z))
+
+pub then_ends : (f g h : Fault) → f ≡ g → (f.code ≡ 0 → ⊥) → f ≡ g then h
+then_ends f g h e bad = e ∙ sym (then_stop g h (bad_as e bad))
+
+-- the same of answers, as a function meets them: f is the fault that it found, and g what the definition says
 pub by_next : (who : ℕ) (f g : Fault) (a next : Answer) → f ≡ g → f.code ≡ 0 → a ≡ next → a ≡ by who g next
 unfolding by
 by_next who f g a next e z h =

@@ -6,14 +6,29 @@ use mathlib.Core.List.{List, [], ◌∷◌, ◌++◌}
 use borrow.Rule.Slice.PartMut.{put_mid, Post-is}
 use Rattle.std.proofs.Common.{append_assoc}
 use native.Mathlib.Nat.{add-zero, zero-add, add-suc, suc-add}
+use native.Mathlib.Numerals.{add-one}
 use native.Mathlib.Omega.{arith}
 use borrow.Author.Tests.{lt-ltb, le-ltb, ltb-false, eqb-false, le-leb, lt-leb}
 use lib.Dec.{ltb}
-use lib.ListN.{length, take, drop, set}
-use lib.Seq.{sets, sets-eq, take-append_seam, drop-append_seam}
+use lib.ListN.{length, get_or, take, drop, set, drop_of_length-le}
+use lib.Seq.{sets, sets-eq, drop-cons, take-append_seam, drop-append_seam}
 use Rattle.answers.specs.declared.Answer.{Answer}
 use Rattle.answers.proofs.Faults.{next_chosen, this_chosen}
 use Rattle.answers.specs.Answers.{accepted, refused, fits, buffer_after, Delivered, stored_if_room, Leaves}
+
+-- one byte of the run is stored, and the others come after it
+pub store_next : (out bytes : List ℕ) (at i : ℕ) → i < length bytes
+    → sets (set out (at + i) (get_or bytes i 0)) (at + (i + 1)) (drop (i + 1) bytes) ≡ sets out (at + i) (drop i bytes)
+store_next out bytes at i h = rw (add-one, add-suc) (sym (ap (sets out (at + i)) (drop-cons bytes i 0 h)))
+
+-- none is stored yet, and none remains
+pub store_first : (out bytes : List ℕ) (at : ℕ) → sets out (at + 0) (drop 0 bytes) ≡ sets out at bytes
+store_first out bytes at = ap (λ (k : ℕ). sets out k bytes) (add-zero at)
+
+pub store_last : (out bytes : List ℕ) (at i : ℕ) → length bytes ≤ i → sets out (at + i) (drop i bytes) ≡ out
+store_last out bytes at i h = ap (sets out (at + i)) (drop_of_length-le bytes h)
+
+pub ruleset storing = (store_first, store_next, store_last)
 
 -- a part of the buffer that was given the bytes
 pub pasted : (at : ℕ) (bytes out : List ℕ) → at + length bytes ≤ length out → put_mid at (at + length bytes - at) out bytes ≡ sets out at bytes

@@ -167,13 +167,15 @@ pub fn room<const N: usize>() -> [u8; N]
     [0; N]
 }
 
-// Stores the bytes into the buffer from `at` on.
-#[tactic(auto, using(crate::proofs::Stores::pasted))]
+// Stores the bytes into the buffer from `at` on, one by one: `copy_from_slice` would have the archive ask for `memmove`.
+#[tactic(auto, using(crate::proofs::Stores::storing))]
 pub fn put(out: &mut [u8], at: usize, bytes: &[u8])
     requires { at + length bytes.now ≤ length out.old }
     ensures { out.new ≡ sets out.old at bytes.now }
 {
-    out[at..at + bytes.len()].copy_from_slice(bytes);
+    for (i, &b) in bytes.iter().enumerate() {
+        out[at + i] = b;
+    }
 }
 
 // Stores the bytes at the buffer's start, if they fit, and tells how many they are.

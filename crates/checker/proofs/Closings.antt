@@ -7,10 +7,11 @@ use borrow.Author.Tests.{leb-false, lt-leb, ltb-true, lt-ltb}
 use native.Mathlib.Omega.{arith}
 use lib.Dec.{leb, ltb}
 use lib.ListN.{length, get_or}
-use Rattle.answers.specs.Answers.{fault, sound}
-use Rattle.answers.proofs.Faults.{then_next, then_both}
+use Rattle.answers.specs.declared.Fault.{Fault}
+use Rattle.answers.specs.Answers.{fault, sound, byte_fault, ◌then◌}
+use Rattle.answers.proofs.Faults.{then_assoc, then_next, then_both}
 use Rattle.cubes.specs.Values.{in_pairs}
-use Rattle.wirings.specs.Pairs.{cubes_in, of_pair, dead}
+use Rattle.wirings.specs.Pairs.{cubes_in, side, against, of_pair, dead}
 use Rattle.claims.specs.Reading.{read_to}
 use Rattle.checker.specs.Checking.{index_fault, closing_fault}
 
@@ -34,9 +35,23 @@ pub index_good : (c : List ℕ) (k number : ℕ) → Index c k number → index_
 unfolding index_fault
 index_good c k number h = simp (lt-leb _ _ h.there, lt-ltb _ _ h.below)
 
--- whether the pair of a closing is dead
+-- the fault of u, the fault of v, and whether their pair is dead
+abbrev pub u_fault : List ℕ → List ℕ → ℕ → Fault
+u_fault f c at = index_fault c (at + 1) (cubes_in (side (get_or c at 0) f))
+
+abbrev pub v_fault : ℕ → List ℕ → List ℕ → ℕ → Fault
+v_fault q g c at = index_fault c (at + 2) (cubes_in (side (against q (get_or c at 0)) g))
+
 abbrev pub named_dead : ℕ → ℕ → List ℕ → List ℕ → List ℕ → List ℕ → ℕ → Bool
 named_dead n q f g c w at = of_pair q f g (dead n w) (get_or c at 0, get_or c (at + 1) 0, get_or c (at + 2) 0)
+
+-- test by test
+pub closing_steps : (n q : ℕ) (f g c w : List ℕ) (at : ℕ)
+    → closing_fault n q f g c w at ≡ byte_fault c at 0 1 15 then (u_fault f c at then (v_fault q g c at then (cond (named_dead n q f g c w at) sound (fault 17 at) then read_to (at + 3))))
+unfolding closing_fault
+closing_steps n q f g c w at =
+    let d = cond (named_dead n q f g c w at) sound (fault 17 at) then read_to (at + 3) in
+    then_assoc _ (cond (named_dead n q f g c w at) sound (fault 17 at)) (read_to (at + 3)) ∙ then_assoc _ (v_fault q g c at) d ∙ then_assoc _ (u_fault f c at) (v_fault q g c at then d)
 
 -- without fault it is read to its end
 pub closing_ends : (n q : ℕ) (f g c w : List ℕ) (at : ℕ) → (closing_fault n q f g c w at).code ≡ 0 → closing_fault n q f g c w at ≡ read_to (at + 3)

@@ -69,7 +69,8 @@ module _ (n : ℕ) (l : List ℕ) (from : ℕ) where
     abbrev w : List ℕ
     w = prefix x.masks
 
-    stands : StandsFor x.masks n w
+    -- so the wiring stands for its choices with these inputs
+    pub stands : StandsFor x.masks n w
     stands = subst (λ (n : ℕ). StandsFor x.masks n w) m.inputs x.formed
 
     module _ (d : ℕ) (h : k < length s) where

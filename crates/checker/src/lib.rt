@@ -120,8 +120,8 @@ fn pair_dead(w: Wiring, ours: &[u8], theirs: &[u8], u: u8, v: u8) -> bool
 
 // The closing at a node: s, then u, then v, each of which has to be without fault, then whether the pair is dead. It ends after v.
 #[tactic(auto, using(crate::proofs::Reached::readings), unfolding(crate::specs::Checking::closing_fault))]
-fn closing(w: Wiring, q: u8, both: Functions, claim: &[u8], node: usize) -> Result<usize, Fault>
-    ensures value { result ≡ reached (closing_fault w.masks.n q both.entry.f.bytes.now both.entry.g.bytes.now claim.now (prefix w.masks) node) }
+fn closing(w: Wiring, q: u8, both: &Functions, claim: &[u8], node: usize) -> Result<usize, Fault>
+    ensures value { result ≡ reached (closing_fault w.masks.n q both.now.f.bytes.now both.now.g.bytes.now claim.now (prefix w.masks) node) }
     ensures inside { IfOk result (λ end. end ≤ length claim.now) }
 {
     answers::byte_fault(claim, node, 0, 1, Code::BadNode as u8)?;
@@ -139,8 +139,8 @@ fn closing(w: Wiring, q: u8, both: Functions, claim: &[u8], node: usize) -> Resu
 // The tree at a place: a closing, or a split into the trees of the free choices for the next input, each read by this function
 // with one input less to be placed. It says where the tree ends.
 #[tactic(auto, using(crate::proofs::Children::tree_node, crate::proofs::Children::all_read))]
-fn tree(w: Wiring, q: u8, both: Functions, claim: &[u8], start: usize) -> Result<usize, Fault>
-    ensures value { result ≡ reached (tree_fault w.masks.n q both.entry.f.bytes.now both.entry.g.bytes.now claim.now (prefix w.masks) start) }
+fn tree(w: Wiring, q: u8, both: &Functions, claim: &[u8], start: usize) -> Result<usize, Fault>
+    ensures value { result ≡ reached (tree_fault w.masks.n q both.now.f.bytes.now both.now.g.bytes.now claim.now (prefix w.masks) start) }
     ensures inside { IfOk result (λ end. end ≤ length claim.now) }
 {
     if claim.len() <= start {
@@ -168,8 +168,8 @@ fn refusal_fault(both: Functions, claim: &[u8]) -> Result<(), Fault>
 {
     let n = both.n();
     header_fault(claim, b'F', n)?;
-    let first = tree(Wiring::start(n), 0, both, claim, 3)?;
-    let second = tree(Wiring::start(n), 1, both, claim, first)?;
+    let first = tree(Wiring::start(n), 0, &both, claim, 3)?;
+    let second = tree(Wiring::start(n), 1, &both, claim, first)?;
     answers::length_fault(claim.len(), second)
 }
 

@@ -7,6 +7,8 @@ use mathlib.Core.List.{List, [], ◌∷◌}
 use mathlib.Core.Logic.{⊎_elim}
 use native.Mathlib.Numerals.{add-one, add-two}
 use native.Mathlib.Omega.{arith}
+use mir.Val.{Fits}
+use mir.Syntax.{w8}
 use lib.Bits.{bit_and}
 use lib.ListN.{length, get_or, take, drop, length-drop}
 use lib.Pow.{pow_mono}
@@ -16,6 +18,7 @@ use Rattle.std.specs.declared.option.Option.{Option}
 use Rattle.std.specs.declared.option.Option.TheVariants.{None, Some}
 use Rattle.std.specs.List.{list_any, count_by, filter, range_with_len}
 use Rattle.std.specs.Simd.{first_chunks}
+use Rattle.std.proofs.Math.Facts.{Fits-lt-pow}
 use Rattle.std.proofs.lemmas.Grind.{common_steps}
 use Rattle.std.proofs.lemmas.List.Folds.{list_any_more}
 use Rattle.std.proofs.lemmas.List.Sums.{length-filter, sum_by-cons}
@@ -26,6 +29,40 @@ use Rattle.bits.proofs.Smallest.{Means, smallest_means, found_any, none_any, sma
 use Rattle.cubes.specs.Cubes.{cube_holds, cubes_share, least_shared, some_cube, some_holds, least_with, patterns_held}
 use Rattle.cubes.specs.Values.{in_pairs, number_of}
 use Rattle.cubes.proofs.Masks.{as_cube}
+
+-- what remains at a place with a whole cube: the cube, and what comes after it
+pub cube_there : (l : List ℕ) (at : ℕ) → at + 1 < length l → drop at l ≡ get_or l at 0 ∷ get_or l (at + 1) 0 ∷ drop (at + 2) l
+cube_there l at h = rw (add-one, add-two) (drop-cons l at 0 (omega arith) ∙ ap (λ (r : List ℕ). get_or l at 0 ∷ r) (drop-cons l (suc at) 0 (omega arith)))
+
+module _ (t : ℕ → ℕ → Bool) where
+  pub some_step : (l : List ℕ) (at : ℕ) → at + 1 < length l → some_cube t (drop at l) ≡ t (get_or l at 0) (get_or l (at + 1) 0) || some_cube t (drop (at + 2) l)
+  unfolding some_cube
+  some_step l at h = ap (some_cube t) (cube_there l at h)
+
+  -- less than a cube remains
+  some_short : (l : List ℕ) → length l ≤ 1 → some_cube t l ≡ false
+  unfolding some_cube
+  some_short [] h = refl
+  some_short (P ∷ []) h = refl
+  some_short (P ∷ N ∷ l) h = absurd (omega (arith, h))
+
+  pub some_end : (l : List ℕ) (at : ℕ) → length l ≤ at + 1 → some_cube t (drop at l) ≡ false
+  some_end l at h = some_short (drop at l) (omega (arith, length-drop at l))
+
+-- the masks of a list of bytes are bytes
+pub pair_bytes : (l : List ℕ) → ((i : ℕ) → get_or l i 0 < 256) → (k j : ℕ) → get_or (get_or (in_pairs l) k []) j 0 < 256
+unfolding in_pairs
+pair_bytes [] b k j = omega arith
+pair_bytes (P ∷ []) b k j = omega arith
+pair_bytes (P ∷ N ∷ l) b zero zero = b 0
+pair_bytes (P ∷ N ∷ l) b zero (suc zero) = b 1
+pair_bytes (P ∷ N ∷ l) b zero (suc (suc j)) = omega arith
+pair_bytes (P ∷ N ∷ l) b (suc k) j = pair_bytes l (λ i. b (suc (suc i))) k j
+
+-- as the code holds it
+pub masks_here : (l : List ℕ) (ps : List (List ℕ)) → ((i : ℕ) → Fits w8 (get_or l i 0)) → ps ≡ in_pairs l → (k j : ℕ) → get_or (get_or ps k []) j 0 < 256
+masks_here l ps b e k j =
+    subst (λ (qs : List (List ℕ)). get_or (get_or qs k []) j 0 < 256) (sym e) (pair_bytes l (λ i. Fits-lt-pow (b i)) k j)
 
 -- ---- every cube of a list
 
@@ -134,6 +171,16 @@ lists_meet m h l l' = some_same _ _ l (each_all _ (λ P N. cube_meets m h P N l'
 pub as_cubes : (x : ℕ) (l : List ℕ) → x < 2 ^ 8 → some_cube (cubes_share 8 x (2 ^ 8 - 1 - x)) l ≡ some_holds l x
 as_cubes x l h = some_same _ _ l (each_all _ (λ P N. as_cube P N x h) l)
 
+-- what was found says whether two cubes share a pattern
+module _ (n P N P' N' : ℕ) where
+  pub shared_at : (x : ℕ) → least_shared n P N P' N' ≡ Some x → cubes_share n P N P' N' ≡ true
+  unfolding least_shared cubes_share
+  shared_at x e = found_any (λ x. cube_holds P N x && cube_holds P' N' x) (2 ^ n) x e
+
+  pub shared_nowhere : least_shared n P N P' N' ≡ None → cubes_share n P N P' N' ≡ false
+  unfolding least_shared cubes_share
+  shared_nowhere e = none_any (λ x. cube_holds P N x && cube_holds P' N' x) (2 ^ n) e
+
 -- ---- patterns as numbers
 
 number_lesser : (a b : Option ℕ) → number_of a ≤ 256 → number_of b ≤ 256 → number_of (lesser a b) ≡ min (number_of a) (number_of b)
@@ -141,6 +188,12 @@ unfolding number_of lesser
 number_lesser None b h k = omega arith
 number_lesser (Some x) None h k = omega arith
 number_lesser (Some x) (Some y) h k = refl
+
+-- a number below 256 is the pattern
+pub number_is : (o : Option ℕ) (x : ℕ) → x ≡ number_of o → x < 256 → Some x ≡ o
+unfolding number_of
+number_is None x e h = absurd (omega (arith, e, h))
+number_is (Some y) x e h = ap Some e
 
 -- a pattern of eight inputs is below 256, and so its number tells it
 module _ (p : ℕ → Bool) where

@@ -2,7 +2,7 @@
 // masks do the same is proved in proofs/.
 #![tactic(auto)]
 
-ghost use Rattle.std.specs.Prelude.{◌≡◌, false, ℕ, ◌+◌, ◌*◌, ◌/◌, ◌%◌, ◌≤◌};
+ghost use Rattle.std.specs.Prelude.{◌≡◌, false, ℕ, ◌+◌, ◌*◌, ◌/◌, ◌%◌, ◌≤◌, get_or};
 ghost use Rattle.std.specs.declared.option.Option.TheVariants.{None};
 ghost use Rattle.bits.specs.Bits.{has, lesser};
 ghost use Rattle.cubes.specs.Cubes.{cube_names, cubes_share, least_shared, some_cube, some_holds, least_with, patterns_held, inputs_used};
@@ -70,10 +70,10 @@ impl Cube {
     fn any_open(self, list: &[u8]) -> bool
         ensures { result ≡ false → least_with 8 self.pos self.neg list.now ≡ None }
     {
-        let opposite = joined(self.neg, self.pos);
+        let opposite = joined([self.neg, self.pos]);
         let mut any = false;
-        for &[pos, neg] in each(list) {
-            any |= opposite & joined(pos, neg) == 0;
+        for &cube in each(list) {
+            any |= opposite & joined(cube) == 0;
         }
         any
     }
@@ -83,10 +83,10 @@ impl Cube {
     fn least_number(self, list: &[u8]) -> u16
         ensures { result ≡ number_of (least_with 8 self.pos self.neg list.now) }
     {
-        let own = joined(self.pos, self.neg);
+        let own = joined([self.pos, self.neg]);
         let mut least = 256u16;
-        for &[pos, neg] in each(list) {
-            least = least.min(shared_number(own, joined(pos, neg)));
+        for &cube in each(list) {
+            least = least.min(shared_number(own, joined(cube)));
         }
         least
     }
@@ -113,11 +113,11 @@ fn shared_number(own: u16, other: u16) -> u16
     both % 256
 }
 
-// The masks of a cube as one number, P below N.
-fn joined(pos: u8, neg: u8) -> u16
-    ensures { result ≡ neg * 256 + pos }
+// The masks of a cube as one number, P below N. Of the pair as it lies in a list, that is one load.
+fn joined(cube: [u8; 2]) -> u16
+    ensures { result ≡ get_or cube 1 0 * 256 + get_or cube 0 0 }
 {
-    u16::from_le_bytes([pos, neg])
+    u16::from_le_bytes(cube)
 }
 
 // Whether some cube of the list holds pattern x, which is the cube that names every input as x has it.

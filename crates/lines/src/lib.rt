@@ -112,6 +112,9 @@ pub fn match_lines(input: &[u8], out: &mut [u8]) -> usize
     put_text(answer, &claim[..len], out)
 }
 
+// A longer claim is not read.
+const MOST_CLAIM: usize = 49152;
+
 // What the check program prints for its input, if it fits, and the length of it: one line.
 pub fn check_lines(input: &[u8], out: &mut [u8]) -> usize
     ensures upper_bound { result ≤ 37 }
@@ -121,7 +124,7 @@ pub fn check_lines(input: &[u8], out: &mut [u8]) -> usize
     let rest = what_follows(input);
     let g = this_record(rest);
     let claim = what_follows(rest);
-    if claim.len() > 49152 {
+    if claim.len() > MOST_CLAIM {
         return answers::leave(out, b"too long\n");
     }
     put_text(checker::check(f, g, claim), b"", out)

@@ -45,10 +45,12 @@ pub comes : (q : ℕ) (f g : List ℕ) (r : Masks) → StandsFor r (inputs g) []
 comes q f g r s o e = e ∙ stands_as r (inputs g) [] s (λ n w. searched (first_from n q f g w) (length (node_bytes n q f g w)))
 
 -- a length that was measured is no longer than the longest tree
-pub measured_most : (q : ℕ) (f g : List ℕ) → Accepted f g → (m : ℕ) → Comes q f g (Err m) → m ≤ 37661809
+pub measured_few : (n q : ℕ) (f g : List ℕ) → n ≤ 8 → (m : ℕ) → Err m ≡ searched (first_from n q f g []) (length (node_bytes n q f g [])) → m ≤ 37661809
 unfolding follows
-measured_most q f g ok m none =
-    omega (arith, (searched_err _ _ m none).1, node_most (inputs g) q f g [] (few_inputs f g ok) refl)
+measured_few n q f g few m none = omega (arith, (searched_err _ _ m none).1, node_most n q f g [] few refl)
+
+pub measured_most : (q : ℕ) (f g : List ℕ) → Accepted f g → (m : ℕ) → Comes q f g (Err m) → m ≤ 37661809
+measured_most q f g ok = measured_few (inputs g) q f g (few_inputs f g ok)
 
 module _ (n q : ℕ) (f g : List ℕ) where
   -- what is found there is a whole wiring
@@ -69,11 +71,11 @@ module _ (f g : List ℕ) where
   abbrev n : ℕ
   n = inputs g
 
-  abbrev with_phase : ℕ → Option (List ℕ) → Option (List ℕ)
+  abbrev pub with_phase : ℕ → Option (List ℕ) → Option (List ℕ)
   with_phase q = option_map (λ (w : List ℕ). q ∷ w)
 
   -- what q = 0 gives, else q = 1
-  phases : first_agreeing f g ≡ (with_phase 0 (first_from n 0 f g []) else with_phase 1 (first_from n 1 f g []))
+  pub phases : first_agreeing f g ≡ (with_phase 0 (first_from n 0 f g []) else with_phase 1 (first_from n 1 f g []))
   unfolding first_agreeing first_from wirings flat_map first_some
   phases =
       rw sub-zero
@@ -124,7 +126,7 @@ module _ (f g : List ℕ) where
   -- ---- the answer
 
   module _ (ok : Accepted f g) (before after : List ℕ) (r : Answer) where
-    abbrev Claimed : Type 0
+    abbrev pub Claimed : Type 0
     Claimed = Delivered (matching f g (length before)) (claim_for f g) before after r
 
     -- both functions are read, so that room for the claim is all that is asked for
@@ -136,11 +138,11 @@ module _ (f g : List ℕ) where
         (ap (λ (o : Option (List ℕ)). fits (kind_found o) (length before) (length (claim_of f g o))) (sym e) ∙ sym by_room)
         (ap (claim_of f g) (sym e)) d
 
-    abbrev Match : ℕ → ℕ → Type 0
+    abbrev pub Match : ℕ → ℕ → Type 0
     Match q choices = Delivered (fits 1 (length before) (4 + n)) (match_claim n (q ∷ as_bytes n choices)) before after r
 
     -- a search that comes to choices: a match
-    matched : (q choices : ℕ) (w : List ℕ) → first_from n q f g [] ≡ Some w → choices ≡ as_number w
+    pub matched : (q choices : ℕ) (w : List ℕ) → first_from n q f g [] ≡ Some w → choices ≡ as_number w
         → first_agreeing f g ≡ Some (q ∷ w) → Match q choices → Claimed
     unfolding claim_of kind_found
     matched q choices w found number first d =

@@ -20,9 +20,9 @@ use records::Functions;
 // or, where none does, the length of the tree that shows it. A node with a dead pair has none; another is split, and each child
 // is searched by this function with one input less to be placed.
 #[tactic(auto, using(crate::proofs::Searching::nodes, crate::proofs::Searching::steps))]
-fn search(w: Wiring, q: u8, both: Functions) -> Result<u64, usize>
-    requires { w.masks.n ≡ inputs both.g.bytes.now }
-    ensures { result ≡ searched (first_from w.masks.n q both.entry.f.bytes.now both.entry.g.bytes.now (prefix w.masks)) (length (tree_bytes (own_tree w.masks.n q both.entry.f.bytes.now both.entry.g.bytes.now (prefix w.masks)))) }
+fn search(w: Wiring, q: u8, both: &Functions) -> Result<u64, usize>
+    requires { w.masks.n ≡ inputs both.now.g.bytes.now }
+    ensures { result ≡ searched (first_from w.masks.n q both.now.f.bytes.now both.now.g.bytes.now (prefix w.masks)) (length (tree_bytes (own_tree w.masks.n q both.now.f.bytes.now both.now.g.bytes.now (prefix w.masks)))) }
 {
     if w.first_dead(both.f, both.g, q).is_some() {
         return Err(3);
@@ -45,10 +45,10 @@ fn search(w: Wiring, q: u8, both: Functions) -> Result<u64, usize>
 // Writes the matcher's own tree from `start` on, and says where it ends: a node with a dead pair is closed with the first, every
 // other is split into the trees of the free choices for the next input, each written by this function.
 #[tactic(auto, using(crate::proofs::Writing::writing, crate::proofs::Searching::steps))]
-fn write_tree(w: Wiring, q: u8, both: Functions, out: &mut [u8], start: usize) -> usize
-    requires { start + length (tree_bytes (own_tree w.masks.n q both.f.bytes.now both.g.bytes.now (prefix w.masks))) ≤ length out.old }
-    ensures value { result ≡ start + length (tree_bytes (own_tree w.masks.n q both.entry.f.bytes.now both.entry.g.bytes.now (prefix w.masks))) }
-    ensures out_after { out.new ≡ sets out.old start (tree_bytes (own_tree w.masks.n q both.entry.f.bytes.now both.entry.g.bytes.now (prefix w.masks))) }
+fn write_tree(w: Wiring, q: u8, both: &Functions, out: &mut [u8], start: usize) -> usize
+    requires { start + length (tree_bytes (own_tree w.masks.n q both.now.f.bytes.now both.now.g.bytes.now (prefix w.masks))) ≤ length out.old }
+    ensures value { result ≡ start + length (tree_bytes (own_tree w.masks.n q both.now.f.bytes.now both.now.g.bytes.now (prefix w.masks))) }
+    ensures out_after { out.new ≡ sets out.old start (tree_bytes (own_tree w.masks.n q both.now.f.bytes.now both.now.g.bytes.now (prefix w.masks))) }
 {
     if let Some(pair) = w.first_dead(both.f, both.g, q) {
         let closing = [pair.s, pair.u as u8, pair.v as u8];
@@ -91,8 +91,8 @@ fn write_refusal(both: Functions, needed: usize, out: &mut [u8]) -> Answer
     let n = both.n();
     answers::put(out, 0, &[b'R', b'F', n]);
     let start = Wiring::start(n);
-    let second = write_tree(start, 0, both, out, 3);
-    let end = write_tree(start, 1, both, out, second);
+    let second = write_tree(start, 0, &both, out, 3);
+    let end = write_tree(start, 1, &both, out, second);
     answers::accepted(Kind::NoMatch as u8, end)
 }
 
@@ -107,11 +107,11 @@ pub fn find(f: &[u8], g: &[u8], out: &mut [u8]) -> Answer
         Err(refusal) => return refusal,
     };
     let n = both.n();
-    let plain = match search(Wiring::start(n), 0, both) {
+    let plain = match search(Wiring::start(n), 0, &both) {
         Ok(choices) => return write_match(n, 0, choices, out),
         Err(length) => length,
     };
-    let turned = match search(Wiring::start(n), 1, both) {
+    let turned = match search(Wiring::start(n), 1, &both) {
         Ok(choices) => return write_match(n, 1, choices, out),
         Err(length) => length,
     };

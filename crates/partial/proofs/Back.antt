@@ -70,7 +70,7 @@ module _ (r : Masks) (n : ℕ) (u : List ℕ) (b : ℕ) (s : StandsFor r n (u ad
   input_below : input_of b < n
   input_below = choice_input n (omega (arith, s.few)) b (sym (listed n b) ∙ both_left (some_in (eqb b) (choices_from 0 n)) (free_choice u b) may_last)
 
-  input_room : bit_and b 15 < 8
+  pub input_room : bit_and b 15 < 8
   input_room = omega (arith, and_mask b 4, input_below, s.few)
 
   -- the choice at its place in the packed number
@@ -80,7 +80,7 @@ module _ (r : Masks) (n : ℕ) (u : List ℕ) (b : ℕ) (s : StandsFor r n (u ad
   shift_exact : (b * 2 ^ (8 * (r.depth - 1))) % 2 ^ 64 ≡ b * 2 ^ (8 * (r.depth - 1))
   shift_exact = mod-eq_of_lt (omega (arith, grown, stands_choices r n more s, placed_fits n s.few more s.allowed))
 
-  choices_hold : (b * 2 ^ (8 * (r.depth - 1))) % 2 ^ 64 ≤ r.choices
+  pub choices_hold : (b * 2 ^ (8 * (r.depth - 1))) % 2 ^ 64 ≤ r.choices
   choices_hold = omega (arith, shift_exact, grown)
 
   choices_less : r.choices - (b * 2 ^ (8 * (r.depth - 1))) % 2 ^ 64 ≡ as_number u

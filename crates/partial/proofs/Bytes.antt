@@ -16,18 +16,18 @@ use Rattle.partial.specs.Partial.{led}
 
 -- ---- a number of k bytes, of which byte i is f i
 
-unfoldable of_bytes : ℕ → (ℕ → ℕ) → ℕ
+unfoldable pub of_bytes : ℕ → (ℕ → ℕ) → ℕ
 of_bytes zero f = 0
 of_bytes (suc k) f = f 0 + 256 * of_bytes k (λ i. f (suc i))
 
-bytes_times : (k : ℕ) (f : ℕ → ℕ) (b : ℕ) → of_bytes k f * b ≡ of_bytes k (λ i. f i * b)
+pub bytes_times : (k : ℕ) (f : ℕ → ℕ) (b : ℕ) → of_bytes k f * b ≡ of_bytes k (λ i. f i * b)
 unfolding of_bytes
 bytes_times zero f b = zero-mul b
 bytes_times (suc k) f b =
     let rest = of_bytes k (λ i. f (suc i)) in
     add-mul (f 0) (256 * rest) b ∙ ap (λ (m : ℕ). f 0 * b + m) (mul_assoc 256 rest b ∙ ap (λ (m : ℕ). 256 * m) (bytes_times k (λ i. f (suc i)) b))
 
-bytes_has : (k : ℕ) (f : ℕ → ℕ) → ((i : ℕ) → f i < 256) → (i j : ℕ) → i < k → j < 8 → has (of_bytes k f) (8 * i + j) ≡ has (f i) j
+pub bytes_has : (k : ℕ) (f : ℕ → ℕ) → ((i : ℕ) → f i < 256) → (i j : ℕ) → i < k → j < 8 → has (of_bytes k f) (8 * i + j) ≡ has (f i) j
 unfolding of_bytes
 bytes_has zero f small i j h l = absurd (omega (arith, h))
 bytes_has (suc k) f small zero j h l =

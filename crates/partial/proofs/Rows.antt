@@ -12,11 +12,7 @@ use lib.Seq.{drop-cons}
 use Rattle.std.specs.Prelude.{is_some}
 use Rattle.std.specs.declared.option.Option.{Option}
 use Rattle.std.specs.declared.option.Option.TheVariants.{None, Some}
-use Rattle.std.specs.Option.{option_map}
-use Rattle.std.specs.List.{position, position_from}
-use Rattle.std.proofs.lemmas.Iterator.Adapters.{position_from-zero}
 use Rattle.cubes.specs.Values.{in_pairs}
-use Rattle.cubes.proofs.Lists.{of_pair as pair_passes}
 use Rattle.rules.specs.Lists.{run, upto, first}
 use Rattle.rules.specs.Rules.{follows}
 use Rattle.rules.proofs.Lists.{map_in, first_some, first_same, first_flat, ◌else◌}
@@ -87,45 +83,51 @@ module _ {B : Type 0} where
       ap (first_pair h u) (drop-cons ps u d l)
       ∙ ap (λ (k : ℕ). h u (get_or (get_or ps u d) 0 0) (get_or (get_or ps u d) 1 0) else first_pair h (u + 1) (drop k ps)) (sym (add-one u))
 
-  -- the first that passes a test, as std has it
-  by_position : (t : ℕ → ℕ → Bool) (f : ℕ → B) (v : ℕ) (ps : List (List ℕ))
-      → first_pair (λ v P N. cond (t P N) (Some (f v)) None) v ps ≡ option_map f (position_from (pair_passes t) v ps)
-  unfolding first_pair ◌else◌
-  by_position t f v [] = refl
-  by_position t f v (c ∷ ps) =
-      elim (pair_passes t c) as (λ b. (cond b (Some (f v)) None else first_pair (λ v P N. cond (t P N) (Some (f v)) None) (v + 1) ps) ≡ option_map f (cond b (Some v) (position_from (pair_passes t) (v + 1) ps))) [
-        | true ↦ refl
-        | false ↦ by_position t f (v + 1) ps
-      ]
-
 -- ---- one carried cube against a list
 
-module _ (c : Carried) (list : List ℕ) (s u : ℕ) where
-  -- what cube v gives
-  abbrev row_at : ℕ → ℕ → ℕ → Option Pair
+module _ (c : Carried) (s u : ℕ) where
+  -- what cube v gives, and what the cubes from there on do
+  abbrev pub row_at : ℕ → ℕ → ℕ → Option Pair
   row_at v P N = cond (clears c P N) (Some (s, u, v)) None
 
-  row_given : row c list s u ≡ option_map (λ v. (s, u, v)) (position (pair_passes (clears c)) (in_pairs list))
-  unfolding row
-  row_given =
-      first_given (λ p. at_cube (clears c) list p.2) (λ v. (s, u, v)) (upto (cubes_in list))
-      ∙ by_pairs row_at list (λ v. at_cube (row_at v) list v) 0 (λ k. let same : 0 + k ≡ k = omega arith in ap (λ (v : ℕ). at_cube (row_at (0 + k)) list v) same)
-      ∙ by_position (clears c) (λ v. (s, u, v)) 0 (in_pairs list)
-      ∙ ap (option_map (λ v. (s, u, v))) (sym (position_from-zero (pair_passes (clears c)) (in_pairs list)))
+  unfoldable pub row_from : ℕ → List (List ℕ) → Option PairFound
+  row_from v ps = found (first_pair row_at v ps)
 
-  pub row_found : (v : ℕ) → position (pair_passes (clears c)) (in_pairs list) ≡ Some v → found (row c list s u) ≡ Some (record { s = s; u = u; v = v })
-  unfolding found
-  row_found v e = ap found (row_given ∙ ap (option_map (λ v. (s, u, v))) e)
+  pub row_starts : (list : List ℕ) → found (row c list s u) ≡ row_from 0 (in_pairs list)
+  unfolding row row_from
+  row_starts list =
+      ap found
+      (first_given (λ p. at_cube (clears c) list p.2) (λ v. (s, u, v)) (upto (cubes_in list))
+      ∙ by_pairs row_at list (λ v. at_cube (row_at v) list v) 0 (λ k. let same : 0 + k ≡ k = omega arith in ap (λ (v : ℕ). at_cube (row_at (0 + k)) list v) same))
 
-  pub row_none : position (pair_passes (clears c)) (in_pairs list) ≡ None → found (row c list s u) ≡ None
-  unfolding found
-  row_none e = ap found (row_given ∙ ap (option_map (λ v. (s, u, v))) e)
+  pub row_ends : (ps : List (List ℕ)) (v : ℕ) → length ps ≤ v → row_from v (drop v ps) ≡ None
+  unfolding row_from first_pair found
+  row_ends ps v h = ap (row_from v) (drop_of_length-le ps h)
+
+  module _ (ps : List (List ℕ)) (v : ℕ) (d : List ℕ) (h : v < length ps) where
+    abbrev passes : Bool
+    passes = clears c (get_or (get_or ps v d) 0 0) (get_or (get_or ps v d) 1 0)
+
+    row_step : row_from v (drop v ps) ≡ (found (cond passes (Some (s, u, v)) None) else row_from (v + 1) (drop (v + 1) ps))
+    unfolding row_from
+    row_step = ap found (walk_step row_at ps v d h) ∙ found_else _ _
+
+    pub row_found : passes ≡ true → row_from v (drop v ps) ≡ Some (record { s = s; u = u; v = v })
+    unfolding row_from ◌else◌ found
+    row_found e = row_step ∙ ap (λ (b : Bool). found (cond b (Some (s, u, v)) None) else row_from (v + 1) (drop (v + 1) ps)) e
+
+    pub row_goes : passes ≡ false → row_from v (drop v ps) ≡ row_from (v + 1) (drop (v + 1) ps)
+    unfolding row_from ◌else◌ found
+    row_goes e = row_step ∙ ap (λ (b : Bool). found (cond b (Some (s, u, v)) None) else row_from (v + 1) (drop (v + 1) ps)) e
+
+-- the walk at its start, from cube to cube and at its end
+pub ruleset row_walk = (row_starts, row_found, row_goes, row_ends)
 
 -- ---- a list of f against a list of g
 
 module _ (n : ℕ) (w : List ℕ) (other : List ℕ) (s : ℕ) where
   -- what cube u gives, and what the pairs from there on do
-  abbrev rows_at : ℕ → ℕ → ℕ → Option Pair
+  abbrev pub rows_at : ℕ → ℕ → ℕ → Option Pair
   rows_at u P N = row (carried n w P N) other s u
 
   unfoldable pub rows_from : ℕ → List (List ℕ) → Option PairFound
@@ -183,9 +185,10 @@ module _ (n q : ℕ) (f g w : List ℕ) where
   abbrev off : Option Pair
   off = rows n w (side 1 f) (side (against q 1) g) 1
 
-  by_rows : first_dead n q f g w ≡ (on else off)
+  -- each list against its own
+  pub first_dead_rows : first_dead n q f g w ≡ (on else off)
   unfolding first_dead pairs rows first_some
-  by_rows =
+  first_dead_rows =
       first_flat (of_pair q f g (dead n w)) (of_side q f g) (0 ∷ 1 ∷ [])
       ∙ ap₂ (λ (a b : Option Pair). a else b) (same_list 0) (else_nothing (first (of_pair q f g (dead n w)) (of_side q f g 1)) ∙ same_list 1)
     where
@@ -194,8 +197,8 @@ module _ (n q : ℕ) (f g w : List ℕ) where
 
   pub first_dead_on : (p : PairFound) → found on ≡ Some p → found (first_dead n q f g w) ≡ Some p
   unfolding ◌else◌
-  first_dead_on p e = ap found by_rows ∙ found_else on off ∙ ap (λ (o : Option PairFound). o else found off) e
+  first_dead_on p e = ap found first_dead_rows ∙ found_else on off ∙ ap (λ (o : Option PairFound). o else found off) e
 
   pub first_dead_off : found on ≡ None → found (first_dead n q f g w) ≡ found off
   unfolding ◌else◌
-  first_dead_off e = ap found by_rows ∙ found_else on off ∙ ap (λ (o : Option PairFound). o else found off) e
+  first_dead_off e = ap found first_dead_rows ∙ found_else on off ∙ ap (λ (o : Option PairFound). o else found off) e

@@ -1,9 +1,13 @@
 -- Any two outcomes that a public contract allows are equal.
 use Prim.Native.Nat.{ℕ}
-use mathlib.Core.Path.{sym, ◌∙◌}
+use mathlib.Core.Path.{◌≡◌, sym, ◌∙◌}
+use mathlib.Core.HLevel.{is_prop→PathP}
 use mathlib.Core.List.{List}
 use Rattle.settled.specs.Settled.{Settled, SettledAs}
+use Rattle.std.proofs.Props.{props}
 use Rattle.partial.specs.declared.Masks.{Masks}
+use Rattle.partial.specs.declared.Wiring.{Wiring}
+use Rattle.partial.specs.Partial.{Formed}
 use Rattle.partial.proofs.choice.Kinds as choice_kinds
 use Rattle.partial.proofs.choice.Reads as choice
 use Rattle.partial.proofs.rank.Kinds as rank_kinds
@@ -63,9 +67,16 @@ opposes_settled κs a r₁ r₂ s₁ s₂ p q = p ∙ sym q
 pub clears_settled : Settled 0 clears_kinds.ps clears_kinds.r clears.Post
 clears_settled κs a r₁ r₂ s₁ s₂ p q = p ∙ sym q
 
--- a wiring is fixed by n and its choices
-pub start_settled : SettledAs 0 start_kinds.ps start_kinds.r (λ κs. Masks) (λ κs x s. x.masks) start.Post
-start_settled κs a r₁ r₂ s₁ s₂ p q = p.is ∙ sym q.is
+-- a wiring is its masks: that they are formed is a fact with one proof at most
+formed_one : (m : Masks) → IsProp (Formed m)
+formed_one m = Prim.hlevel props
+
+pub wiring_one : (x y : Wiring) → x.masks ≡ y.masks → x ≡ y
+wiring_one x y e = λ i. record { masks = e i; formed = is_prop→PathP (λ j. Formed (e j)) (λ j. formed_one (e j)) x.formed y.formed i }
+
+-- and so is fixed by n and its choices
+pub start_settled : Settled 0 start_kinds.ps start_kinds.r start.Post
+start_settled κs a r₁ r₂ s₁ s₂ p q = wiring_one r₁ r₂ (p.is ∙ sym q.is)
 
 pub free_settled : Settled 0 free_kinds.ps free_kinds.r free.Post
 free_settled κs a r₁ r₂ s₁ s₂ p q = p ∙ sym q
@@ -73,14 +84,14 @@ free_settled κs a r₁ r₂ s₁ s₂ p q = p ∙ sym q
 pub offer_settled : Settled 0 offer_kinds.ps offer_kinds.r offer.Post
 offer_settled κs a r₁ r₂ s₁ s₂ p q = p ∙ sym q
 
-pub place_settled : SettledAs 0 place_kinds.ps place_kinds.r (λ κs. Masks) (λ κs x s. x.masks) place.Post
-place_settled κs a r₁ r₂ s₁ s₂ p q = p.is ∙ sym q.is
+pub place_settled : Settled 0 place_kinds.ps place_kinds.r place.Post
+place_settled κs a r₁ r₂ s₁ s₂ p q = wiring_one r₁ r₂ (p.is ∙ sym q.is)
 
 pub last_settled : Settled 0 last_kinds.ps last_kinds.r last.Post
 last_settled κs a r₁ r₂ s₁ s₂ p q = p ∙ sym q
 
-pub back_settled : SettledAs 0 back_kinds.ps back_kinds.r (λ κs. Masks) (λ κs x s. x.masks) back.Post
-back_settled κs a r₁ r₂ s₁ s₂ p q = p.is ∙ sym q.is
+pub back_settled : Settled 0 back_kinds.ps back_kinds.r back.Post
+back_settled κs a r₁ r₂ s₁ s₂ p q = wiring_one r₁ r₂ (p.is ∙ sym q.is)
 
 pub locate_settled : Settled 0 locate_kinds.ps locate_kinds.r locate.Post
 locate_settled κs a r₁ r₂ s₁ s₂ p q = p ∙ sym q

@@ -148,13 +148,16 @@ impl Carried {
     }
 
     // The first cube of a list of g that makes a dead pair with this one, cube u of list s of f.
+    #[tactic(auto, using(crate::proofs::Rows::row_walk))]
     fn row(self, list: &[u8], s: u8, u: usize) -> Option<Pair>
         ensures { result ≡ found (row self list.now s u) }
     {
-        let v = cubes::each(list)
-            .iter()
-            .position(|&[pos, neg]| self.clears(Cube { pos, neg }))?;
-        Some(Pair { s, u, v })
+        for (v, &[pos, neg]) in cubes::each(list).iter().enumerate() {
+            if self.clears(Cube { pos, neg }) {
+                return Some(Pair { s, u, v });
+            }
+        }
+        None
     }
 }
 

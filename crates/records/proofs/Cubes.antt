@@ -113,6 +113,10 @@ pub all_clean : (s : List ℕ) → Bytes s → (cubes_fault s).code ≡ 0 → Cl
 all_clean s bytes e = clean_list (inputs s) (drop 5 s) 5 (λ i. subst (λ (b : ℕ). b < 2 ^ 8) (sym (get_or-drop 5 s i 0)) (bytes (5 + i))) e
 
 module _ (s : List ℕ) (framed : Framed s) where
+  -- what stands before the off list
+  pub front_long : length (take (off_at s) s) ≡ off_at s
+  front_long = length-take-le (off_at s) s (omega arith)
+
   -- the on list is what stands between the cubes' start and the off list's
   pub on_front : drop (cubes_at s) (take (off_at s) s) ≡ on_list s
   unfolding on_list

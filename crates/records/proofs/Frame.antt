@@ -78,10 +78,14 @@ both_fine f g e =
     same true q h = eqb-true _ _ q
     same false q h = absurd (omega (arith, h))
 
--- the header's fault is the record's; and without a fault up to there, the on cubes decide
+-- the three ways in which the reading ends
 pub ends_at_header : (s : List ℕ) → ((header_fault s).code ≡ 0 → ⊥) → record_fault s ≡ header_fault s
 unfolding record_fault
 ends_at_header s h = ap (λ (f : Fault). f then clash_fault s) (then_stop _ _ h) ∙ then_stop _ _ h
+
+pub ends_at_cubes : (s : List ℕ) → (header_fault s).code ≡ 0 → ((cubes_fault s).code ≡ 0 → ⊥) → record_fault s ≡ cubes_fault s
+unfolding record_fault
+ends_at_cubes s h c = ap (λ (f : Fault). f then clash_fault s) (then_next _ _ h) ∙ then_stop _ _ c
 
 pub ends_at_clash : (s : List ℕ) → (header_fault s).code ≡ 0 → (cubes_fault s).code ≡ 0 → record_fault s ≡ clash_fault s
 unfolding record_fault

@@ -48,18 +48,26 @@ read_settled κs a r₁ r₂ s₁ s₂ p q = p ∙ sym q
 pub summary_settled : Settled 1 summary_kinds.ps summary_kinds.r summary.Post
 summary_settled κs a r₁ r₂ s₁ s₂ p q = p ∙ sym q
 
--- of two functions, their bytes are seen
-both_seen : {A : Type 0} (view : A → List ℕ × List ℕ) (U : Result (Unit {0}) Answer) (f g : List ℕ) (r₁ r₂ : Result A Answer)
-    → result_and r₁ (Ok (tt {0})) ≡ U → IfOk r₁ (λ x. (view x).0 ≡ f) → IfOk r₁ (λ x. (view x).1 ≡ g)
-    → result_and r₂ (Ok (tt {0})) ≡ U → IfOk r₂ (λ x. (view x).0 ≡ f) → IfOk r₂ (λ x. (view x).1 ≡ g)
-    → result_map_both view (λ a. a) r₁ ≡ result_map_both view (λ a. a) r₂
-both_seen view U f g (Ok a) (Ok b) p h k q i j = λ t. Ok ((h ∙ sym i) t, (k ∙ sym j) t)
-both_seen view U f g (Ok a) (Err e) p h k q i j = cc
-both_seen view U f g (Err d) (Ok b) p h k q i j = cc
-both_seen view U f g (Err d) (Err e) p h k q i j = let same : d ≡ e = cc in ap Err same
+-- of two functions, their bytes are seen, and where they lie: block of memory and offset
+abbrev Lent : Type 0
+Lent = (ℕ × ℕ) × List ℕ
 
-pub both_settled : SettledAs 1 both_kinds.ps both_kinds.r (λ κs. Result (List ℕ × List ℕ) Answer) (λ κs x s. result_map_both (λ both. (both.f.bytes.now, both.g.bytes.now)) (λ a. a) x) both.Post
-both_settled κs a r₁ r₂ s₁ s₂ p q = both_seen _ _ _ _ r₁ r₂ p.0 p.1.0 p.1.1.0 q.0 q.1.0 q.1.1.0
+both_seen : {A : Type 0} (view : A → Lent × Lent) (U : Result (Unit {0}) Answer) (f g : Lent) (r₁ r₂ : Result A Answer)
+    → result_and r₁ (Ok (tt {0})) ≡ U → IfOk r₁ (λ x. (view x).0.1 ≡ f.1) → IfOk r₁ (λ x. (view x).1.1 ≡ g.1)
+    → IfOk r₁ (λ x. (view x).0.0 ≡ f.0) → IfOk r₁ (λ x. (view x).1.0 ≡ g.0)
+    → result_and r₂ (Ok (tt {0})) ≡ U → IfOk r₂ (λ x. (view x).0.1 ≡ f.1) → IfOk r₂ (λ x. (view x).1.1 ≡ g.1)
+    → IfOk r₂ (λ x. (view x).0.0 ≡ f.0) → IfOk r₂ (λ x. (view x).1.0 ≡ g.0)
+    → result_map_both view (λ a. a) r₁ ≡ result_map_both view (λ a. a) r₂
+both_seen view U f g (Ok a) (Ok b) p h k m n q i j v w =
+    λ t. Ok (((m ∙ sym v) t, (h ∙ sym i) t), ((n ∙ sym w) t, (k ∙ sym j) t))
+both_seen view U f g (Ok a) (Err e) p h k m n q i j v w = cc
+both_seen view U f g (Err d) (Ok b) p h k m n q i j v w = cc
+both_seen view U f g (Err d) (Err e) p h k m n q i j v w = let same : d ≡ e = cc in ap Err same
+
+pub both_settled : SettledAs 1 both_kinds.ps both_kinds.r (λ κs. Result (Lent × Lent) Answer)
+    (λ κs x s. result_map_both (λ both. ((both.f.bytes.ref_ptr, both.f.bytes.now), (both.g.bytes.ref_ptr, both.g.bytes.now))) (λ a. a) x) both.Post
+both_settled κs a r₁ r₂ s₁ s₂ p q =
+    both_seen _ _ (_, _) (_, _) r₁ r₂ p.0 p.1.0 p.1.1.0 p.1.1.1.0 p.1.1.1.1.0 q.0 q.1.0 q.1.1.0 q.1.1.1.0 q.1.1.1.1.0
 
 -- of a part that is handed back, its bytes are seen
 pub on_list_settled : SettledAs 1 on_list_kinds.ps on_list_kinds.r (λ κs. List ℕ) (λ κs x s. x.now) on_List.Post

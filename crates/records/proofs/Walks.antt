@@ -52,17 +52,26 @@ module _ (code pattern : ℕ → ℕ → ℕ) where
     search_goes d h z =
         record { rest = step d h ∙ simp (eq-eqb _ _ z) (ap (λ (ps : List (List ℕ)). fault_in (drop (k + 1) ps) (from + 2 * (k + 1))) e) }
 
+    -- a pair with any code but 0 is the first with a fault
+    pub search_found_any : (d : List ℕ) → k < length ps → (at_pair code (get_or ps k d) ≡ 0 → ⊥)
+        → first_fault code pattern l from ≡ fault_at (at_pair code (get_or ps k d)) (from + 2 * k) (at_pair pattern (get_or ps k d))
+    search_found_any d h bad =
+        let c = get_or ps k d in
+        step d h ∙ ap (λ (t : Bool). cond t (fault_in (drop (k + 1) ps) (from + 2 * (k + 1))) (fault_at (at_pair code c) (from + 2 * k) (at_pair pattern c))) (ne_eqb _ 0 bad)
+
+    -- as the code tells it
     pub search_found : (d : List ℕ) (x : Code) (p : ℕ) → k < length ps → number x ≡ at_pair code (get_or ps k d) → p ≡ at_pair pattern (get_or ps k d)
         → Err (fault_at (number x) (from + 2 * k) p) ≡ verdict (first_fault code pattern l from)
     search_found d x p h q r =
-        let c = get_or ps k d in
         sym
         (ap verdict
-        (step d h ∙ ap (λ (t : Bool). cond t (fault_in (drop (k + 1) ps) (from + 2 * (k + 1))) (fault_at (at_pair code c) (from + 2 * k) (at_pair pattern c))) (ne_eqb _ 0 (λ z. numbered x (q ∙ z)))
-        ∙ ap₂ (λ code p. fault_at code (from + 2 * k) p) (sym q) (sym r)) ∙ verdict_at x (from + 2 * k) p)
+        (search_found_any d h (λ z. numbered x (q ∙ z)) ∙ ap₂ (λ code p. fault_at code (from + 2 * k) p) (sym q) (sym r)) ∙ verdict_at x (from + 2 * k) p)
+
+    -- where no pair is left, none has a fault
+    pub search_sound : length ps ≤ k → first_fault code pattern l from ≡ sound
+    unfolding fault_in
+    search_sound h =
+        w.rest ∙ ap (λ (ps : List (List ℕ)). fault_in (drop k ps) (from + 2 * k)) (sym e) ∙ ap (λ (ps : List (List ℕ)). fault_in ps (from + 2 * k)) (drop_of_length-le ps h)
 
     pub search_ends : length ps ≤ k → Ok (tt {0}) ≡ verdict (first_fault code pattern l from)
-    unfolding fault_in
-    search_ends h =
-        let end = w.rest ∙ ap (λ (ps : List (List ℕ)). fault_in (drop k ps) (from + 2 * k)) (sym e) ∙ ap (λ (ps : List (List ℕ)). fault_in ps (from + 2 * k)) (drop_of_length-le ps h) in
-        sym (verdict_sound (first_fault code pattern l from) (ap (λ (f : Fault). f.code) end))
+    search_ends h = sym (verdict_sound (first_fault code pattern l from) (ap (λ (f : Fault). f.code) (search_sound h)))

@@ -72,6 +72,7 @@ impl Functions<'_> {
     #[tactic(auto, using(crate::proofs::Frame::few_inputs))]
     pub fn n(self) -> u8
         ensures value { result ≡ inputs self.entry.g.bytes.now }
+        ensures same { result ≡ inputs self.entry.f.bytes.now }
         ensures most { result ≤ 8 }
     {
         self.g.bytes[2]
@@ -211,6 +212,8 @@ pub fn both<'a>(f: &'a [u8], g: &'a [u8]) -> Result<Functions<'a>, Answer>
     ensures value { result_and result (Ok (tt {0})) ≡ unless_refused (both_read f.now g.now) }
     ensures same_f { IfOk result (λ both. both.f.bytes.now ≡ f.now) }
     ensures same_g { IfOk result (λ both. both.g.bytes.now ≡ g.now) }
+    ensures memory_f { IfOk result (λ both. both.f.bytes.ref_ptr ≡ f.entry.ref_ptr) }
+    ensures memory_g { IfOk result (λ both. both.g.bytes.ref_ptr ≡ g.entry.ref_ptr) }
     ensures sized_f { OnOk result (Sized f.now) }
     ensures sized_g { OnOk result (Sized g.now) }
 {

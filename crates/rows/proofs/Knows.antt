@@ -193,10 +193,11 @@ told_some true v = refl
 told_some false v = refl
 
 module _ (k : Known) (said : List Says) (knows : Knows k said) where
-  inputs_stand : is_some k.n ≡ stands dot_i said
+  -- `.i` and `.p` stood where their numbers are kept
+  pub inputs_stand : is_some k.n ≡ stands dot_i said
   inputs_stand = ap is_some knows.stood.inputs_told ∙ told_some (stands dot_i said) (told dot_i said)
 
-  count_stands : is_some k.told ≡ stands dot_p said
+  pub count_stands : is_some k.told ≡ stands dot_p said
   count_stands = ap is_some knows.stood.count_told ∙ told_some (stands dot_p said) (cut (told dot_p said))
 
   complete_known : all_known k ≡ complete said

@@ -44,7 +44,7 @@ abbrev pub counted_by : ℕ → Line → ℕ → ℕ
 counted_by c (Term (Some t)) count = more_if t.out c count
 counted_by c line count = count
 
-abbrev ends_with : Line → Bool
+abbrev pub ends_with : Line → Bool
 ends_with End = true
 ends_with line = false
 
@@ -60,7 +60,7 @@ no_end k End e good =
 no_end k line e good = refl
 
 -- the code sees `.e` where the line says it
-ends_seen : (s : Says) → ends_with (seen s) ≡ is_end s
+pub ends_seen : (s : Says) → ends_with (seen s) ≡ is_end s
 unfolding seen is_end
 ends_seen (keyword name v) = by_keyword (λ l. ends_with l ≡ false) name v refl refl refl refl
 ends_seen s = refl
@@ -127,11 +127,11 @@ module _ (c : ℕ) (said : List Says) (count : ℕ) (l : List ℕ) (k : Kept c s
                 ∙ sym (next false q ∙ append-nil (cubes_with c said));
           }
 
-  abbrev Next : Says → Line → Type 0
+  abbrev pub Next : Says → Line → Type 0
   Next s line = Kept c (said ++ (s ∷ [])) (counted_by c line count) (kept_by c line count l)
 
   -- the next line, if it has no fault
-  kept_next : (s : Says) → told dot_i said ≤ 8 → line_code said s ≡ 0 → Next s (seen s)
+  pub kept_next : (s : Says) → told dot_i said ≤ 8 → line_code said s ≡ 0 → Next s (seen s)
   unfolding of_term seen
   kept_next (keyword name v) few e =
       let same = kept_same (keyword name v) refl in
@@ -142,7 +142,7 @@ module _ (c : ℕ) (said : List Says) (count : ℕ) (l : List ℕ) (k : Kept c s
   kept_next s few e = kept_same s refl
 
 -- the counts go with it
-counts_learnt : (k : Known) (line : Line)
+pub counts_learnt : (k : Known) (line : Line)
     → ((learnt k line).on ≡ counted_by on_char line k.on) × ((learnt k line).off ≡ counted_by off_char line k.off)
 counts_learnt k (Term (Some t)) = (refl, refl)
 counts_learnt k line = (refl, refl)
@@ -158,6 +158,9 @@ module _ (text : List ℕ) (at : ℕ) (h : at < length text) (to last : ℕ) (lo
       let back : at + (to - at) ≡ to = omega (arith, low) in
       let far = over_from is_lf (to - at) (drop at text) (omega (arith, high, line_beyond (drop at text))) in
       omega (arith, low, ends, far, ap (passed_over is_lf) (drop-drop (to - at) at text ∙ ap (λ (k : ℕ). drop k text) back))
+
+  pub to_within : to ≤ length text
+  to_within = omega (arith, high, h, passed_over_within ends_bare (drop at text), length-drop at text)
 
   pub last_within : (at ≤ last) × (last ≤ length text)
   last_within = (omega (arith, line_ends), omega (arith, line_ends, passed_over_within is_lf (drop at text), length-drop at text))
@@ -233,7 +236,7 @@ walk_starts text on off a b =
 
 module _ (text : List ℕ) (at row : ℕ) (k : Known) (on off : List ℕ) (w : Walked text at row k on off) where
   -- a stop at a fault
-  stopped : (code : Code) (f : Fault) → f ≡ fault (number code) row → table_fault text ≡ fault (number code) row
+  pub stopped : (code : Code) (f : Fault) → f ≡ fault (number code) row → table_fault text ≡ fault (number code) row
       → Gathered text on off (Err f)
   stopped code f is e =
       record {
@@ -245,29 +248,31 @@ module _ (text : List ℕ) (at row : ℕ) (k : Known) (on off : List ℕ) (w : W
       }
 
   -- after the last line
-  pub walk_ends : length text ≤ at → (f : Fault) → f ≡ fault 21 row → Gathered text on off (Err f)
+  pub scanned_last : length text ≤ at → table_fault text ≡ fault 21 row
   unfolding pieces first_faulty
-  walk_ends h f is =
-      stopped Keyword f is
-      (w.faults ∙ ap (λ (l : List ℕ). first_faulty w.said (map says (lines l))) (drop_of_length-le text h)
-      ∙ ap (fault 21) (sym w.rows))
+  scanned_last h =
+      w.faults ∙ ap (λ (l : List ℕ). first_faulty w.said (map says (lines l))) (drop_of_length-le text h)
+      ∙ ap (fault 21) (sym w.rows)
+
+  pub walk_ends : length text ≤ at → (f : Fault) → f ≡ fault 21 row → Gathered text on off (Err f)
+  walk_ends h f is = stopped Keyword f is (scanned_last h)
 
   module _ (s : Says) (rest : List Says) (here : map says (lines (drop at text)) ≡ s ∷ rest) where
-    faulty : (line_code w.said s ≡ 0 → ⊥) → table_fault text ≡ fault (line_code w.said s) row
+    pub faulty : (line_code w.said s ≡ 0 → ⊥) → table_fault text ≡ fault (line_code w.said s) row
     unfolding first_faulty
     faulty bad =
         w.faults ∙ ap (first_faulty w.said) here
         ∙ simp (ne_eqb (line_code w.said s) 0 bad) (ap (fault (line_code w.said s)) (sym w.rows))
 
     module _ (good : line_code w.said s ≡ 0) where
-      ended : is_end s ≡ true → (table_fault text ≡ sound) × (said_in text ≡ w.said)
+      pub ended : is_end s ≡ true → (table_fault text ≡ sound) × (said_in text ≡ w.said)
       unfolding first_faulty up_to_end
       ended e = (
         w.faults ∙ ap (first_faulty w.said) here ∙ simp (eq-eqb (line_code w.said s) 0 good, e),
         w.front ∙ ap (λ (l : List Says). w.said ++ up_to_end l) here ∙ simp e (append-nil w.said),
       )
 
-      goes_on : is_end s ≡ false
+      pub goes_on : is_end s ≡ false
           → (table_fault text ≡ first_faulty (w.said ++ (s ∷ [])) rest) × (said_in text ≡ (w.said ++ (s ∷ [])) ++ up_to_end rest)
       unfolding first_faulty up_to_end
       goes_on e = (

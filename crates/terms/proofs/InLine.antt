@@ -152,6 +152,9 @@ module _ (text : List ℕ) (at : ℕ) where
         passed_over_within ends_bare (drop at text),
       )
 
+  pub bare_in_text : at ≤ length text → at + length bare_here ≤ length text
+  bare_in_text h = omega (arith, h, bare_long, passed_over_within ends_bare (drop at text), length-drop at text)
+
   -- a place of the text that lies in the line
   pub record Here (x : ℕ) : Type 0 where
     pub low : at ≤ x
@@ -221,6 +224,10 @@ module _ (text : List ℕ) (at : ℕ) where
 
   pub starts_here : Here at
   starts_here = record { low = omega arith; high = omega arith }
+
+  -- a place of the line lies in the text
+  pub in_text : at ≤ length text → (x : ℕ) → Here x → x ≤ length text
+  in_text h x g = omega (arith, bare_in_text h, g.high)
 
   -- a word of the line, from a place on, as the scans of the text find it
   pub word_here : (x q e : ℕ) → Here x → q ≡ x + passed_over (λ c. not (is_blank c)) (drop x text)
@@ -301,7 +308,7 @@ module _ (s : List ℕ) (p e q d : ℕ) (first : Word s 0 p e) (next : Word s e 
 -- ---- the line of a text that begins at `at`: its first word goes from `from` to `to`, the next from `start` to `end`, and one
 -- more would start at `next`
 
-no_word : (text : List ℕ) (at from : ℕ) → at ≤ length text → from ≡ at + passed_over (λ c. not (is_blank c)) (drop at text)
+pub no_word : (text : List ℕ) (at from : ℕ) → at ≤ length text → from ≡ at + passed_over (λ c. not (is_blank c)) (drop at text)
     → eqb (passed_over ends_bare (drop from text)) 0 ≡ true → words (bare_here text at) ≡ []
 no_word text at from h a e =
     let lies = start_lies text at at (starts_here text at) from a in
@@ -311,14 +318,19 @@ no_word text at from h a e =
     ∙ word_none (bare_here text at) (at - at) (from - at) _ (word_here text at at from _ (starts_here text at) a refl)
     (omega (arith, bare_left text at from lies, over_here, lies.low))
 
+-- the first word starts no farther than the line's end
+pub start_near : (text : List ℕ) (at from : ℕ) → from ≡ at + passed_over (λ c. not (is_blank c)) (drop at text)
+    → from ≤ at + passed_over ends_bare (drop at text)
+start_near text at from a = omega (arith, (start_lies text at at (starts_here text at) from a).high, bare_long text at)
+
 -- what the scans found, one after another
-record Found (text : List ℕ) (at from to start end next : ℕ) : Type 0 where
-  begins : at ≤ length text
-  first_starts : from ≡ at + passed_over (λ c. not (is_blank c)) (drop at text)
-  first_ends : to ≡ from + passed_over ends_word (drop from text)
-  next_starts : start ≡ to + passed_over (λ c. not (is_blank c)) (drop to text)
-  next_ends : end ≡ start + passed_over ends_word (drop start text)
-  more_starts : next ≡ end + passed_over (λ c. not (is_blank c)) (drop end text)
+pub record Found (text : List ℕ) (at from to start end next : ℕ) : Type 0 where
+  pub begins : at ≤ length text
+  pub first_starts : from ≡ at + passed_over (λ c. not (is_blank c)) (drop at text)
+  pub first_ends : to ≡ from + passed_over ends_word (drop from text)
+  pub next_starts : start ≡ to + passed_over (λ c. not (is_blank c)) (drop to text)
+  pub next_ends : end ≡ start + passed_over ends_word (drop start text)
+  pub more_starts : next ≡ end + passed_over (λ c. not (is_blank c)) (drop end text)
 
 module _ (text : List ℕ) (at from to start end next : ℕ) (f : Found text at from to start end next) where
   abbrev s : List ℕ
@@ -388,19 +400,42 @@ module _ (text : List ℕ) (at from to start end next : ℕ) (f : Found text at 
     char_is = char_here text at from from_lies (omega (arith, before_end, from_lies.low))
 
     -- a keyword's line
-    keyword_said : get_or text from 0 ≡ dot → seen (says_by (words s)) ≡ seen (keyword_line one (after t two))
+    pub keyword_said : get_or text from 0 ≡ dot → seen (says_by (words s)) ≡ seen (keyword_line one (after t two))
     keyword_said z =
         said ∙ ap seen (dot_first s (from - at) (to - at) (start - at) (end - at) first_word next_word _ before_end
         (sym char_is ∙ z))
         ∙ ap₂ (λ (w v : List ℕ). seen (keyword_line w (after t v))) (sym one_is) (sym two_is)
 
     -- a term's
-    term_said : (get_or text from 0 ≡ dot → ⊥) → seen (says_by (words s)) ≡ Term (term_seen one (after t two))
+    pub term_said : (get_or text from 0 ≡ dot → ⊥) → seen (says_by (words s)) ≡ Term (term_seen one (after t two))
     unfolding seen
     term_said z =
         said ∙ ap seen (no_dot_first s (from - at) (to - at) (start - at) (end - at) first_word next_word _ before_end
         (λ y. z (char_is ∙ y)))
         ∙ ap₂ (λ (w v : List ℕ). Term (term_seen w (after t v))) (sym one_is) (sym two_is)
+
+    -- the words lie in the text, and the first has a character
+    pub from_below : from < length text
+    from_below = omega (arith, before_end, from_lies.low, bare_in_text text at f.begins)
+
+  pub from_in : from ≤ length text
+  from_in = in_text text at f.begins from from_lies
+
+  pub to_in : to ≤ length text
+  to_in = in_text text at f.begins to to_lies
+
+  pub start_in : start ≤ length text
+  start_in = in_text text at f.begins start start_lies_here
+
+  pub end_in : end ≤ length text
+  end_in = in_text text at f.begins end end_lies_here
+
+  pub next_in : next ≤ length text
+  next_in = in_text text at f.begins next next_lies
+
+  -- and the last of these places in the line
+  pub next_low : at ≤ next
+  next_low = next_lies.low
 
 -- ---- and so the code finds it
 
@@ -450,7 +485,7 @@ module _ (text : List ℕ) (at : ℕ) (h : at ≤ length text) where
 
   -- and these places lie in the line
   pub first_near : from ≤ at + passed_over ends_bare (drop at text)
-  first_near = omega (arith, (from_lies text at from to start end next found).high, bare_long text at)
+  first_near = start_near text at from refl
 
   pub next_near : next ≤ at + passed_over ends_bare (drop at text)
   next_near = omega (arith, (next_lies text at from to start end next found).high, bare_long text at)

@@ -14,7 +14,7 @@ use Rattle.terms.specs.declared.Line.TheVariants.{Output, Inputs, Fr, Terms, End
 use Rattle.terms.specs.Terms.{Says, keyword, malformed, dot_i, dot_o, one, dot_type, fr, dot_p, dot_e, keyword_line}
 use Rattle.terms.specs.Seen.{seen, after, numbered}
 
-line_e : (ws : List (List ℕ)) → seen (keyword_line dot_e ws) ≡ End
+pub line_e : (ws : List (List ℕ)) → seen (keyword_line dot_e ws) ≡ End
 unfolding keyword_line seen same
 line_e ws = refl
 
@@ -25,12 +25,12 @@ seen_either true s = refl
 seen_either false s = refl
 
 module _ (v : List ℕ) where
-  line_o : (alone : Bool) → seen (keyword_line dot_o (after alone v)) ≡ cond (alone && same v one) Output Malformed
+  pub line_o : (alone : Bool) → seen (keyword_line dot_o (after alone v)) ≡ cond (alone && same v one) Output Malformed
   unfolding keyword_line seen same
   line_o true = seen_either (same v one) (keyword dot_o v)
   line_o false = refl
 
-  line_type : (alone : Bool) → seen (keyword_line dot_type (after alone v)) ≡ cond (alone && same v fr) Fr Malformed
+  pub line_type : (alone : Bool) → seen (keyword_line dot_type (after alone v)) ≡ cond (alone && same v fr) Fr Malformed
   unfolding keyword_line seen same
   line_type true = seen_either (same v fr) (keyword dot_type v)
   line_type false = refl
@@ -41,17 +41,17 @@ module _ (v : List ℕ) where
   as_number kept true = refl
   as_number kept false = refl
 
-  line_i : (alone : Bool) → seen (keyword_line dot_i (after alone v)) ≡ option_map_or Inputs (numbered alone v) Malformed
+  pub line_i : (alone : Bool) → seen (keyword_line dot_i (after alone v)) ≡ option_map_or Inputs (numbered alone v) Malformed
   unfolding keyword_line seen same counted
   line_i true = seen_either (is_number v) (keyword dot_i v) ∙ as_number Inputs (is_number v)
   line_i false = refl
 
-  line_p : (alone : Bool) → seen (keyword_line dot_p (after alone v)) ≡ option_map_or Terms (numbered alone v) Malformed
+  pub line_p : (alone : Bool) → seen (keyword_line dot_p (after alone v)) ≡ option_map_or Terms (numbered alone v) Malformed
   unfolding keyword_line seen same counted
   line_p true = seen_either (is_number v) (keyword dot_p v) ∙ as_number Terms (is_number v)
   line_p false = refl
 
-line_unknown : (name : List ℕ) (ws : List (List ℕ)) → same name dot_e ≡ false → same name dot_i ≡ false → same name dot_o ≡ false
+pub line_unknown : (name : List ℕ) (ws : List (List ℕ)) → same name dot_e ≡ false → same name dot_i ≡ false → same name dot_o ≡ false
     → same name dot_type ≡ false → same name dot_p ≡ false
     → seen (keyword_line name ws) ≡ Unknown
 unfolding keyword_line seen

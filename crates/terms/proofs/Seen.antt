@@ -1,11 +1,11 @@
 -- What is kept of a term line: what it is of, test by test, and the masks character by character.
 use Rattle.std.proofs.Common.{◌≡◌, ℕ, List, ◌+◌, ◌*◌, ◌≤◌, ◌<◌, ◌^◌, Bool, true, false, cond, ◌&&◌, length, get_or, drop, refl, sym, ap, ◌∙◌, arith, add-one}
 use mathlib.Core.Bool.{and-false}
-use borrow.Author.Tests.{eq-eqb}
-use lib.Bits.{bit_or}
+use borrow.Author.Tests.{eq-eqb, ne_eqb, le-leb, lt-leb}
+use lib.Pow.{pow_mono}
+use native.Mathlib.Nat.{pow-suc}
 use lib.Dec.{eqb, leb}
 use lib.ListN.{drop_of_length-le}
-use Rattle.std.specs.Int.Bits.{or_shifted_r}
 use Rattle.std.specs.declared.option.Option.{Option}
 use Rattle.std.specs.declared.option.Option.TheVariants.{None, Some}
 use Rattle.bits.specs.Bits.{number, mask}
@@ -15,6 +15,10 @@ use Rattle.words.proofs.Scans.{from_here}
 use Rattle.terms.specs.declared.Term.{Term}
 use Rattle.terms.specs.Terms.{is_input, is_output, on_char, off_char, well_formed}
 use Rattle.terms.specs.Seen.{masked, term_seen, after}
+
+-- the next weight, of eight
+pub next_weight : (i x : ℕ) → x ≡ 2 ^ i → x * 2 ≡ 2 ^ (i + 1)
+next_weight i x e = ap (λ (y : ℕ). y * 2) e ∙ sym (ap (λ (k : ℕ). 2 ^ k) (add-one i) ∙ pow-suc 2 i)
 
 module _ (w : List ℕ) where
   -- the mask of the first i inputs with a character, and whether those from i on are all inputs
@@ -38,23 +42,40 @@ module _ (w : List ℕ) where
   unfolding so_far number
   none_so_far c = refl
 
-  pub one_more : (c i : ℕ) → so_far c (i + 1) ≡ cond (eqb (get_or w i 0) c) (bit_or (so_far c i) (2 ^ i)) (so_far c i)
+  -- it has i bits, of eight
+  pub narrow : (c i p x : ℕ) → p ≡ so_far c i → x ≡ 2 ^ i → i ≤ 8 → (p < x) × (x ≤ 256)
+  unfolding so_far
+  narrow c i p x e weighs few =
+      let low = mask_lt i (λ k. eqb (get_or w k 0) c) in
+      let most = pow_mono {i = i} {j = 8} few in
+      (omega (arith, low, e, weighs), omega (arith, most, weighs))
+
+  -- one more input adds its weight, or none
+  pub one_more : (c i p x v : ℕ) → p ≡ so_far c i → x ≡ 2 ^ i → v ≡ cond (eqb (get_or w i 0) c) x 0 → p + v ≡ so_far c (i + 1)
   unfolding so_far number
-  one_more c i = ap (so_far c) (add-one i) ∙ go (eqb (get_or w i 0) c)
+  one_more c i p x v e weighs worth = go (eqb (get_or w i 0) c) worth ∙ ap (so_far c) (sym (add-one i))
     where
-      go : (t : Bool) → cond t 1 0 * 2 ^ i + so_far c i ≡ cond t (bit_or (so_far c i) (2 ^ i)) (so_far c i)
-      go true = sym (ap (bit_or (so_far c i)) (omega arith) ∙ or_shifted_r 1 i (so_far c i) (mask_lt i _))
-      go false = omega arith
+      go : (t : Bool) → v ≡ cond t x 0 → p + v ≡ cond t 1 0 * 2 ^ i + so_far c i
+      go true k = omega (arith, k, e, weighs)
+      go false k = omega (arith, k, e)
 
   pub next_decides : (i : ℕ) → i < length w → inputs_from i ≡ is_input (get_or w i 0) && inputs_from (i + 1)
   unfolding inputs_from each_in
   next_decides i h = ap (each_in is_input) (from_here w i h)
 
+  pub goes_on : (i : ℕ) → i < length w → (t : Bool) → t ≡ is_input (get_or w i 0) → t ≡ true → inputs_from i ≡ inputs_from (i + 1)
+  goes_on i h t e k = next_decides i h ∙ ap (λ (b : Bool). b && inputs_from (i + 1)) (sym e ∙ k)
+
   pub end_decides : (i : ℕ) → length w ≤ i → inputs_from i ≡ true
   unfolding inputs_from each_in
   end_decides i h = ap (each_in is_input) (drop_of_length-le w h)
 
-pub ruleset masking = (masked_by, none_so_far, one_more, next_decides, end_decides)
+pub ruleset masking = (masked_by, none_so_far, next_decides, end_decides)
+
+-- nothing is seen in more than eight characters
+pub term_long : (w : List ℕ) (ws : List (List ℕ)) → 8 < length w → term_seen w ws ≡ None
+unfolding term_seen
+term_long w ws h = simp (lt-leb _ _ h)
 
 -- a term is seen in eight characters at most with an output alone behind them, if they are inputs
 pub term_by : (w out : List ℕ) (b : Bool)
@@ -71,3 +92,14 @@ term_by w out true =
     go x true false true = refl
     go x true false false = refl
     go x false b c = refl
+
+-- so with nothing alone behind it, with more than one character, and with one
+pub none_behind : (w out : List ℕ) (b : Bool) → b ≡ false → term_seen w (after b out) ≡ None
+none_behind w out b e = term_by w out b ∙ simp e
+
+pub long_behind : (w out : List ℕ) (b : Bool) → (length out ≡ 1 → ⊥) → term_seen w (after b out) ≡ None
+long_behind w out b h = term_by w out b ∙ simp (ne_eqb _ _ h, and-false)
+
+pub one_behind : (w out : List ℕ) → length w ≤ 8 → (b : Bool) → b ≡ true → length out ≡ 1 → (t : Bool) → is_output (get_or out 0 0) ≡ t
+    → term_seen w (after b out) ≡ cond t (masked w (get_or out 0 0)) None
+one_behind w out few b there h t e = term_by w out b ∙ simp (there, le-leb _ _ few, eq-eqb _ _ h, e)

@@ -6,7 +6,7 @@ ghost use Rattle.bits.specs.Bits.{has};
 ghost use Rattle.std.proofs.lemmas.List.Edits.{sets};
 ghost use Rattle.rules.specs.Lists.{passed_over, same};
 ghost use Rattle.words.specs.Words.{words, before, ends_bare, line};
-ghost use Rattle.terms.specs.Terms.{on_char, off_char, keyword_line, says_by, dash, characters, term_lines};
+ghost use Rattle.terms.specs.Terms.{is_input, on_char, off_char, keyword_line, says_by, dash, characters, term_lines};
 ghost use Rattle.terms.specs.Seen.{masked, term_seen, seen, numbered, after};
 
 use cubes::Cube;
@@ -33,25 +33,46 @@ pub enum Line {
     Unknown,
 }
 
+// Whether a character may stand for an input.
+fn input(c: u8) -> bool
+    ensures { result ≡ is_input c }
+{
+    matches!(c, b'0' | b'1' | b'-')
+}
+
+// What a character is worth to the mask of those with this mark. It is added and not set by cases: what stands in a table is hard to
+// foretell, and a branch on it costs more than all else.
+fn worth(c: u8, mark: u8, weight: u32) -> u32
+    ensures upper_bound { result ≤ weight }
+    ensures value { result ≡ cond (eqb c mark) weight 0 }
+{
+    if c == mark { weight } else { 0 }
+}
+
 // The term of up to eight characters, input 0 first, with this output; none where one is not 0, 1 or -.
 #[tactic(auto, using(crate::proofs::Seen::masking))]
 fn masks(w: &[u8], out: u8) -> Option<Term>
     requires { length w.now ≤ 8 }
     ensures { result ≡ masked w.now out }
 {
-    let mut pos = 0;
-    let mut neg = 0;
-    for (i, &c) in w.iter().enumerate() {
-        match c {
-            b'1' => pos |= 1u8 << i,
-            b'0' => neg |= 1u8 << i,
-            b'-' => {}
-            _ => return None,
+    let mut pos = 0u32;
+    let mut neg = 0u32;
+    let mut weight = 1u32;
+    for &c in w {
+        if !input(c) {
+            return None;
         }
+        pos += worth(c, b'1', weight);
+        neg += worth(c, b'0', weight);
+        weight *= 2;
     }
+    let cube = Cube {
+        pos: pos as u8,
+        neg: neg as u8,
+    };
     Some(Term {
         n: w.len() as u8,
-        cube: Cube { pos, neg },
+        cube,
         out,
     })
 }

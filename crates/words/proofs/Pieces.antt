@@ -9,7 +9,7 @@ use native.Mathlib.Omega.{arith}
 use borrow.Author.Tests.{not-true, lt-ltb}
 use lib.Dec.{ltb}
 use lib.ListN.{length, get_or, take, drop, length-take, drop_of_length-le}
-use lib.Seq.{drop-cons}
+use lib.Seq.{drop-cons, drop-length}
 use Rattle.std.specs.List.{position_or_len}
 use Rattle.std.proofs.lemmas.List.Recursion.{is_position_or_len}
 use Rattle.std.proofs.lemmas.List.Sums.{prefix_len-le-length, passes_at_first}
@@ -30,6 +30,17 @@ module _ (p : ℕ → Bool) where
 
   pub place_passes : (s : List ℕ) → passed_over p s < length s → p (get_or s (passed_over p s) 0) ≡ true
   place_passes s h = ap (λ (k : ℕ). p (get_or s k 0)) (is_position s) ∙ passes_at_first p s 0 (omega (arith, is_position s))
+
+  pub before_fails : (s : List ℕ) (i : ℕ) → i < passed_over p s → p (get_or s i 0) ≡ false
+  unfolding passed_over
+  before_fails [] i h = absurd (omega (arith, h))
+  before_fails (c ∷ s) i h = go (p c) refl i h (before_fails s)
+    where
+      go : (b : Bool) → p c ≡ b → (i : ℕ) → i < cond b 0 (suc (passed_over p s)) → ((i : ℕ) → i < passed_over p s → p (get_or s i 0) ≡ false)
+          → p (get_or (c ∷ s) i 0) ≡ false
+      go true e i h later = absurd (omega (arith, h))
+      go false e zero h later = e
+      go false e (suc i) h later = later i (omega (arith, h))
 
   pub some_before : (s : List ℕ) → 0 < length s → p (get_or s 0 0) ≡ false → 0 < passed_over p s
   unfolding passed_over
@@ -187,6 +198,10 @@ words_from (c ∷ s) = go (is_blank c) refl (words_from s)
         → words (c ∷ s) ≡ words (drop (cond (not b) 0 (suc (to_word s))) (c ∷ s))
     go true e later = blank_before c s e ∙ later
     go false e later = refl
+
+-- no word where every character is a blank
+pub words_blank : (s : List ℕ) → to_word s ≡ length s → words s ≡ []
+words_blank s e = words_from s ∙ ap (λ (k : ℕ). words (drop k s)) e ∙ ap words (drop-length s) ∙ words_none
 
 -- behind a word comes a blank, or nothing
 blank_after : (s : List ℕ) → words (drop (passed_over is_blank s) s) ≡ words (drop (suc (passed_over is_blank s)) s)

@@ -1,11 +1,11 @@
 -- Scans of a text and of words: what remains from the place reached on decides.
 use Prim.Native.Nat.{ℕ, zero, suc, ◌+◌, ◌*◌, ◌-◌, ◌/◌, ◌≤◌, ◌<◌, min}
-use mathlib.Core.Path.{◌≡◌, refl, sym, ap, ◌∙◌}
+use mathlib.Core.Path.{◌≡◌, refl, sym, ap, ap₂, ◌∙◌}
 use mathlib.Core.Bool.{Bool, true, false, cond, ◌&&◌}
 use mathlib.Core.List.{List, [], ◌∷◌}
 use native.Mathlib.Numerals.{add-one}
 use native.Mathlib.Omega.{arith}
-use borrow.Author.Tests.{lt-ltb}
+use borrow.Author.Tests.{eq-eqb, ne_eqb, lt-ltb}
 use lib.Dec.{eqb}
 use lib.ListN.{length, get_or, take, drop, length-drop, drop_of_length-le}
 use lib.Seq.{drop-cons, drop-drop}
@@ -20,10 +20,12 @@ use Rattle.std.proofs.Common.{Fits}
 use Rattle.std.proofs.Math.Facts.{Fits-lt-pow}
 use Rattle.std.proofs.lemmas.Bool.Decides.{nat_tests}
 use Rattle.std.proofs.lemmas.List.{take_rest, length-take-le, get_or-drop}
+use Rattle.bits.proofs.Tests.{not_passed}
 use Rattle.rules.specs.Lists.{passed_over, each_in, same}
+use Rattle.rules.proofs.Lists.{same_is}
 use Rattle.words.specs.Counted.{most, counted}
 use Rattle.words.specs.Eight.{bytes}
-use Rattle.words.specs.Words.{is_lf, is_digit, read_on}
+use Rattle.words.specs.Words.{is_lf, is_digit, is_number, read_on}
 use Rattle.words.proofs.Marks.{bytes_read}
 use Rattle.words.proofs.Pieces.{is_position, passed_over_within, over_from}
 
@@ -32,6 +34,30 @@ pub from_here : (s : List ℕ) (i : ℕ) → i < length s → drop i s ≡ get_o
 from_here s i h = drop-cons s i 0 h ∙ ap (λ (k : ℕ). get_or s i 0 ∷ drop k s) (sym (add-one i))
 
 -- ---- the first character that passes a test
+
+module _ (p : ℕ → Bool) (s : List ℕ) (at : ℕ) where
+  -- the scan from `at` has come to `i`, and none before it passes
+  pub record Scan (i : ℕ) : Type 0 where
+    pub within : i ≤ length s
+    pub rest : i + passed_over p (drop i s) ≡ at + passed_over p (drop at s)
+
+  pub scan_starts : at ≤ length s → Scan at
+  scan_starts h = record { within = h; rest = refl }
+
+  module _ (i : ℕ) (w : Scan i) where
+    scan_step : i < length s → passed_over p (drop i s) ≡ cond (p (get_or s i 0)) 0 (suc (passed_over p (drop (i + 1) s)))
+    unfolding passed_over
+    scan_step h = ap (passed_over p) (from_here s i h)
+
+    pub scan_found : i < length s → p (get_or s i 0) ≡ true → i ≡ at + passed_over p (drop at s)
+    scan_found h e = omega (arith, w.rest, simp e at (scan_step h))
+
+    pub scan_goes : i < length s → p (get_or s i 0) ≡ false → Scan (i + 1)
+    scan_goes h e = record { within = omega arith; rest = omega (arith, w.rest, simp e at (scan_step h)) }
+
+    pub scan_ends : length s ≤ i → i ≡ at + passed_over p (drop at s)
+    unfolding passed_over
+    scan_ends h = omega (arith, w.rest, ap (passed_over p) (drop_of_length-le s h))
 
 -- as std finds it: at a position, or nowhere and then all are passed over
 pub position_passed : (p : ℕ → Bool) (s : List ℕ) → unwrap_or (position p s) (length s) ≡ passed_over p s
@@ -48,6 +74,22 @@ front_over p (suc n) (c ∷ l) = go (p c) (front_over p n l)
         → cond t 0 (suc (passed_over p (take n l))) ≡ min (suc n) (cond t 0 (suc (passed_over p l)))
     go true e = omega arith
     go false e = omega arith
+
+-- the eight characters from a place on, one by one
+pub eight_here : (s : List ℕ) (i : ℕ) → i + 8 ≤ length s → (l : List ℕ)
+    → l ≡ get_or s i 0 ∷ get_or s (i + 1) 0 ∷ get_or s (i + 2) 0 ∷ get_or s (i + 3) 0 ∷ get_or s (i + 4) 0 ∷ get_or s (i + 5) 0 ∷ get_or s (i + 6) 0 ∷ get_or s (i + 7) 0 ∷ []
+    → l ≡ take 8 (drop i s)
+eight_here s i h l each =
+    each
+    ∙ sym (ap (take 8) (from_here s i (omega arith)) ∙ on i (next 1 6 (omega arith) ∙ on (i + 1) (next 2 5 (omega arith) ∙ on (i + 2) (next 3 4 (omega arith) ∙ on (i + 3) (next 4 3 (omega arith) ∙ on (i + 4) (next 5 2 (omega arith) ∙ on (i + 5) (next 6 1 (omega arith) ∙ on (i + 6) (next 7 0 (omega arith)))))))))
+  where
+    on : (j : ℕ) {l m : List ℕ} → l ≡ m → get_or s j 0 ∷ l ≡ get_or s j 0 ∷ m
+    on j e = ap (λ (l : List ℕ). get_or s j 0 ∷ l) e
+
+    next : (k n : ℕ) → i + k < length s → take (suc n) (drop (i + k) s) ≡ get_or s (i + k) 0 ∷ take n (drop (i + suc k) s)
+    next k n l =
+        let same : suc (i + k) ≡ i + suc k = omega arith in
+        ap (take (suc n)) (drop-cons s (i + k) 0 l) ∙ ap (λ (j : ℕ). get_or s (i + k) 0 ∷ take n (drop j s)) same
 
 -- ---- the end of a line
 
@@ -101,6 +143,34 @@ module _ (s : List ℕ) (at k : ℕ) (chunks : List (List ℕ)) (x : ℕ) (small
 
 -- ---- two words compared
 
+pub other_length : (w v : List ℕ) → (length w ≡ length v → ⊥) → same w v ≡ false
+other_length w v h = not_passed (same w v) (λ e. h (ap length (same_is w v e)))
+
+module _ (w v : List ℕ) where
+  -- they are alike before `i`, and what remains from there on decides
+  pub record Alike (i : ℕ) : Type 0 where
+    pub within : i ≤ length w
+    pub long : length w ≡ length v
+    pub rest : same (drop i w) (drop i v) ≡ same w v
+
+  pub alike_starts : length w ≡ length v → Alike 0
+  alike_starts h = record { within = omega arith; long = h; rest = refl }
+
+  module _ (i : ℕ) (k : Alike i) where
+    alike_step : i < length w → same w v ≡ eqb (get_or w i 0) (get_or v i 0) && same (drop (i + 1) w) (drop (i + 1) v)
+    unfolding same
+    alike_step h = sym k.rest ∙ ap₂ same (from_here w i h) (from_here v i (omega arith))
+
+    pub alike_not : i < length w → (get_or w i 0 ≡ get_or v i 0 → ⊥) → same w v ≡ false
+    alike_not h e = alike_step h ∙ simp (ne_eqb _ _ e)
+
+    pub alike_goes : i < length w → get_or w i 0 ≡ get_or v i 0 → Alike (i + 1)
+    alike_goes h e = record { within = omega arith; long = k.long; rest = sym (alike_step h ∙ simp (eq-eqb _ _ e)) }
+
+    pub alike_ends : length w ≤ i → same w v ≡ true
+    unfolding same
+    alike_ends h = sym k.rest ∙ ap₂ same (drop_of_length-le w h) (drop_of_length-le v {i = i} (omega (arith, k.long)))
+
 pub same_pointwise : (w v : List ℕ) → pointwise eqb w v ≡ same w v
 unfolding same
 same_pointwise [] [] = refl
@@ -141,6 +211,11 @@ reads_on x (d ∷ ds) h = go (is_digit d) (reads_on (then_digit x d) ds (omega a
         → cond t (reading (then_digit x d) ds) None ≡ cond (t && each_in is_digit ds) (read_all (10 * x + (d - 48)) ds) None
     go true e = simp (cut_early most (10 * x + (d - 48)) ds) e
     go false e = refl
+
+-- a word that is no number has none
+pub no_number : (w : List ℕ) → is_number w ≡ false → counted w ≡ None
+unfolding counted
+no_number w e = simp e
 
 -- a word that has no character, and one that has some
 

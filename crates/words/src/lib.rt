@@ -8,7 +8,8 @@ ghost use Rattle.words.specs.Words.{is_lf, is_blank, ends_word, digit as glyph, 
 ghost use Rattle.words.specs.Counted.{most, counted};
 ghost use Rattle.words.specs.Eight.{bytes};
 
-// Where the first character from `at` on stands at which a text stops, or where the text ends.
+// Where the first character from `at` on stands at which a text stops, or where the text ends. A `while`: with a `for` or `position`
+// each character costs a jump more, which is a quarter of the time of a table.
 fn passed<F: FnMut(&u8) -> bool>(text: &[u8], at: usize, stops: F) -> usize
     requires at_in_bounds { at ≤ length text.now }
     requires stops_callable { (state : F) (c : _) → F.pre state c }
@@ -16,8 +17,15 @@ fn passed<F: FnMut(&u8) -> bool>(text: &[u8], at: usize, stops: F) -> usize
         → ((c : _) (r : Bool) (state : F) → F.step stops c r state → (state ≡ stops) × (r ≡ t c.now))
         → result ≡ at + passed_over t (drop at text.now) }
 {
-    let rest = &text[at..];
-    at + rest.iter().position(stops).unwrap_or(rest.len())
+    let mut stops = stops;
+    let mut i = at;
+    while i < text.len() {
+        if stops(&text[i]) {
+            return i;
+        }
+        i += 1;
+    }
+    i
 }
 
 // Where the line ends that `at` lies in: at its LF, or at the text's end. Eight characters are looked at at once.
@@ -81,12 +89,19 @@ pub fn word_end(text: &[u8], at: usize) -> usize
     passed(text, at, |c| ends(*c))
 }
 
-// Whether two words are the same.
-#[tactic(auto, using(crate::proofs::Scans::same_pointwise))]
+// Whether two words are the same, one by one: `==` calls for a comparison by groups, which is slower for words as short as these.
 pub fn same(w: &[u8], v: &[u8]) -> bool
     ensures { result ≡ same_list w.now v.now }
 {
-    w == v
+    if w.len() != v.len() {
+        return false;
+    }
+    for (i, &c) in w.iter().enumerate() {
+        if c != v[i] {
+            return false;
+        }
+    }
+    true
 }
 
 // A tenth of the largest number that is told apart, which no count of lines comes near to.

@@ -4,8 +4,8 @@ use Rattle.answers.specs.Answers.{Leaves}
 use Rattle.lines.proofs.Programs.{check_refused, check_printed}
 use Rattle.lines.proofs.check_lines.Goals as goal
 
-pub returns-then-claim-gt49152-clause-leaves : goal.returns-then-claim-gt49152-clause-leaves
-returns-then-claim-gt49152-clause-leaves c =
+pub returns-then-claim-gt-MOST_CLAIM-clause-leaves : goal.returns-then-claim-gt-MOST_CLAIM-clause-leaves
+returns-then-claim-gt-MOST_CLAIM-clause-leaves c =
     let a = c.args in
     subst (λ (t : List ℕ). Leaves (length t) t a.out.now c.leave.new.out c.leave.result)
     (check_refused a.input.now _ _ _ _ c.this_record-f.ensures c.what_follows-rest.ensures c.this_record-g.ensures c.what_follows-claim.ensures (assumption c))

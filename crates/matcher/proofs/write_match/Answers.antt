@@ -23,10 +23,14 @@ low_bytes i (suc k) (suc n) x y h e =
 pub returns-then-out-needed : goal.returns-then-out-needed
 returns-then-out-needed c = delivered_short _ 1 _ _ _ refl _ c.if-out-needed.true c.refused.ensures
 
+-- as many bytes as there are choices are their claim's
+front : (k n x : ℕ) (l : List ℕ) → l ≡ bytes_low_first 0 8 x → n ≤ 8 → k ≡ n → take k l ≡ as_bytes n x
+front k n x l e few same = ap₂ take same e ∙ low_bytes 0 8 n x x few (omega arith)
+
 pub returns : goal.returns
 returns c =
     let a = c.args in
-    let bytes = ap (take a.n) c.to_le_bytes.ensures ∙ low_bytes 0 8 a.n a.choices a.choices c.requires (omega arith) in
+    let bytes = front _ a.n a.choices _ c.to_le_bytes.ensures c.requires (omega arith) in
     let stored = c.put-2.ensures ∙ ap₂ (λ (l b : List ℕ). sets l 4 b) c.put.ensures bytes in
     delivered_whole _ 1 _ _ _ refl _ c.if-out-needed.false c.accepted.ensures _
     (stored ∙ sets_join a.out.now (0x4D ∷ 0x54 ∷ a.n ∷ a.q ∷ []) (as_bytes a.n a.choices) 0)

@@ -1,18 +1,25 @@
--- Std's first position of a test is where `passed_over` ends.
-use Rattle.std.proofs.Common.{rules, ◌≡◌, ◌∙◌, drop}
-use Rattle.std.specs.List.{position}
-use Rattle.std.proofs.lemmas.List.{take_rest}
-use Rattle.std.proofs.lemmas.Iterator.{YieldsList-from_slice}
-use Rattle.std.proofs.lemmas.Iterator.Search.{position_from_yields_List}
-use Rattle.words.proofs.Scans.{position_passed}
+-- The character at hand passes the test, or the scan goes on behind it.
+use mathlib.Core.Path.{sym, subst, ◌∙◌}
+use Rattle.words.proofs.Scans.{scan_starts, scan_found, scan_goes, scan_ends}
+use Rattle.words.proofs.passed.Invariants.{Answers}
 use Rattle.words.proofs.passed.Goals as goal
+
+pub loop-i-init : goal.loop-i-init
+loop-i-init g c = λ t h. (h, scan_starts t _ _ c.requires.at_in_bounds)
+
+pub returns-then-stops : goal.returns-then-stops
+returns-then-stops g c = λ t h.
+    let w = c.loop-i.invariant t h in
+    let called = w.0 _ _ _ c.stops.ensures in
+    scan_found t _ _ _ w.1 c.loop-i-test.true (sym called.1 ∙ c.if-stops.true)
+
+pub loop-i-preserved : goal.loop-i-preserved
+loop-i-preserved g c = λ t h.
+    let w = c.loop-i.invariant t h in
+    let called = w.0 _ _ _ c.stops.ensures in
+    (subst (λ f. Answers g f t) (sym called.0) w.0, scan_goes t _ _ _ w.1 c.loop-i-test.true (sym called.1 ∙ c.if-stops.false))
 
 pub returns : goal.returns
 returns g c = λ t h.
-    let text = c.args.text.now in
-    let at = c.args.at in
-    let rest = take_rest text at in
-    let yields = YieldsList-from_slice (drop at text) (c.iter.ensures.rest ∙ rest) in
-    let found : c.position.result ≡ position t (drop at text) =
-    position_from_yields_List t _ _ c.position.result c.position.ensures.ran yields (λ x b q k. search (rules, h)) in
-    simp (c.unwrap_or.ensures, found, rest, position_passed t (drop at text))
+    let w = c.loop-i.invariant t h in
+    scan_ends t _ _ _ w.1 c.loop-i-test.false

@@ -4,5 +4,5 @@ use Rattle.std.specs.declared.option.Option.TheVariants.{None}
 use Rattle.cubes.proofs.Lists.{least_of}
 use Rattle.cubes.proofs.Cube.any_open.Given as goal
 
-abbrev pub invariant-loop-pos : goal.invariant-loop-pos
-invariant-loop-pos l = l.any ≡ false → least_of l.fn.self.pos l.fn.self.neg (take l.pos-index l.pos-items) ≡ None
+abbrev pub invariant-loop-cube : goal.invariant-loop-cube
+invariant-loop-cube l = l.any ≡ false → least_of l.fn.self.pos l.fn.self.neg (take l.cube-index l.cube-items) ≡ None

@@ -4,5 +4,5 @@ use Rattle.cubes.specs.Values.{number_of}
 use Rattle.cubes.proofs.Lists.{least_of}
 use Rattle.cubes.proofs.Cube.least_number.Given as goal
 
-abbrev pub invariant-loop-pos : goal.invariant-loop-pos
-invariant-loop-pos l = l.least ≡ number_of (least_of l.fn.self.pos l.fn.self.neg (take l.pos-index l.pos-items))
+abbrev pub invariant-loop-cube : goal.invariant-loop-cube
+invariant-loop-cube l = l.least ≡ number_of (least_of l.fn.self.pos l.fn.self.neg (take l.cube-index l.cube-items))
