@@ -1,5 +1,6 @@
 pub mod Nodes
 pub mod Searching
+pub mod LowBytes
 pub mod Writing
 pub mod Exact
 pub mod Claiming

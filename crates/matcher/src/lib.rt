@@ -66,6 +66,7 @@ fn write_tree(w: Wiring, q: u8, both: &Functions, out: &mut [u8], start: usize) 
 }
 
 // Writes a match claim with the choices of n inputs.
+#[tactic(auto, using(crate::proofs::LowBytes::low_bytes))]
 fn write_match(n: u8, q: u8, choices: u64, out: &mut [u8]) -> Answer
     requires { n ≤ 8 }
     ensures { Delivered (fits 1 (length out.old) (4 + n)) (match_claim n (q ∷ as_bytes n choices)) out.old out.new result }
@@ -75,7 +76,11 @@ fn write_match(n: u8, q: u8, choices: u64, out: &mut [u8]) -> Answer
         return answers::refused(Code::BufferShort as u8, Of::Out as u8, needed);
     }
     answers::put(out, 0, &[b'M', b'T', n, q]);
-    answers::put(out, 4, &choices.to_le_bytes()[..n as usize]);
+    let mut rest = choices;
+    for at in 4..needed {
+        out[at] = (rest % 256) as u8;
+        rest /= 256;
+    }
     answers::accepted(Kind::Match as u8, needed)
 }
 
