@@ -58,14 +58,7 @@ then_assoc f g h = go (eqb f.code 0) refl
     go true e = refl
     go false e = simp e refl
 
--- as a function meets them: f is the fault that it found, and g what the definition says
-pub then_met : (f g h r : Fault) → f ≡ g → f.code ≡ 0 → r ≡ h → r ≡ g then h
-then_met f g h r e z k = k ∙ sym (then_next g h (sound_as e z))
-
-pub then_ends : (f g h : Fault) → f ≡ g → (f.code ≡ 0 → ⊥) → f ≡ g then h
-then_ends f g h e bad = e ∙ sym (then_stop g h (bad_as e bad))
-
--- the same of answers, as a function meets them: f is the fault that it found, and g what the definition says
+-- of answers, as a function meets them: f is the fault that it found, and g what the definition says
 pub by_next : (who : ℕ) (f g : Fault) (a next : Answer) → f ≡ g → f.code ≡ 0 → a ≡ next → a ≡ by who g next
 unfolding by
 by_next who f g a next e z h =

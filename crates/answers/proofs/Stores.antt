@@ -1,10 +1,8 @@
 -- Stores into a lent buffer, one byte after the other.
-use Prim.Native.Nat.{ℕ, suc, ◌+◌, ◌-◌, ◌≤◌, ◌<◌}
+use Prim.Native.Nat.{ℕ, suc, ◌+◌, ◌≤◌, ◌<◌}
 use mathlib.Core.Path.{◌≡◌, refl, sym, ap, ◌∙◌, subst₂}
 use mathlib.Core.Bool.{Bool, true, false, cond}
 use mathlib.Core.List.{List, [], ◌∷◌, ◌++◌}
-use borrow.Rule.Slice.PartMut.{put_mid, Post-is}
-use Rattle.std.proofs.Common.{append_assoc}
 use native.Mathlib.Nat.{add-zero, zero-add, add-suc, suc-add}
 use native.Mathlib.Numerals.{add-one}
 use native.Mathlib.Omega.{arith}
@@ -29,12 +27,6 @@ pub store_last : (out bytes : List ℕ) (at i : ℕ) → length bytes ≤ i → 
 store_last out bytes at i h = ap (sets out (at + i)) (drop_of_length-le bytes h)
 
 pub ruleset storing = (store_first, store_next, store_last)
-
--- a part of the buffer that was given the bytes
-pub pasted : (at : ℕ) (bytes out : List ℕ) → at + length bytes ≤ length out → put_mid at (at + length bytes - at) out bytes ≡ sets out at bytes
-pasted at bytes out h =
-    ap (λ (l : List ℕ). take at out ++ (bytes ++ l)) (Post-is at (at + length bytes) out (omega arith))
-    ∙ sym (append_assoc (take at out) bytes (drop (at + length bytes) out)) ∙ sym (sets-eq bytes out at h)
 
 -- two runs in a row are one
 pub sets_join : (l a b : List ℕ) (i : ℕ) → sets (sets l i a) (i + length a) b ≡ sets l i (a ++ b)

@@ -34,52 +34,11 @@ module _ (n q : ℕ) (f g c w : List ℕ) where
   unfoldable pub children : ℕ → ℕ → Fault
   children k at = each_read (offered n w k) at
 
-  -- case by case
-  module _ (at : ℕ) where
-    -- no byte is there
-    pub tree_short : length c ≤ at → fault 1 (length c) ≡ tree_fault n q f g c w at
-    unfolding tree_fault read_tree
-    tree_short h = go (n - length w)
-      where
-        go : (k : ℕ) → fault 1 (length c) ≡ read_tree (straight n) (closing_fault n q f g c) c k w at
-        go zero = simp (le-leb (length c) at h)
-        go (suc k) = simp (le-leb (length c) at h)
-
-    module _ (there : at < length c) where
-      -- it is not FF
-      pub tree_closing : (get_or c at 0 ≡ 0xFF → ⊥) → closing_fault n q f g c w at ≡ tree_fault n q f g c w at
-      unfolding tree_fault read_tree
-      tree_closing h = go (n - length w)
-        where
-          go : (k : ℕ) → closing_fault n q f g c w at ≡ read_tree (straight n) (closing_fault n q f g c) c k w at
-          go zero = simp (lt-leb (length c) at there, ne_eqb (get_or c at 0) 0xFF h)
-          go (suc k) = simp (lt-leb (length c) at there, ne_eqb (get_or c at 0) 0xFF h)
-
-      module _ (marked : get_or c at 0 ≡ 0xFF) where
-        -- it is, and no input is left to be placed
-        pub tree_deep : length w ≡ n → fault 16 at ≡ tree_fault n q f g c w at
-        unfolding tree_fault read_tree
-        tree_deep h = simp (sub_self_of n (length w) h, lt-leb (length c) at there, eq-eqb (get_or c at 0) 0xFF marked)
-          where
-            sub_self_of : (n m : ℕ) → m ≡ n → n - m ≡ 0
-            sub_self_of n m h = omega arith
-
-        -- it is, and one is
-        pub tree_split : length w < n → children 0 (at + 1) ≡ tree_fault n q f g c w at
-        unfolding tree_fault read_tree children offered
-        tree_split h =
-            let k = n - suc (length w) in
-            let left : n - length w ≡ suc k = omega arith in
-            let read : ℕ → List ℕ → ℕ → Fault = read_tree (straight n) (closing_fault n q f g c) c in
-            let less : (b : ℕ) → n - length (w adding b) ≡ k = λ b. omega (arith, length-append w (b ∷ [])) in
-            simp (left, lt-leb (length c) at there, eq-eqb (get_or c at 0) 0xFF marked)
-            (ap (λ (each : ℕ → ℕ → Fault). in_turn each (next (straight n) w) (at + 1)) (fun_ext (λ b. ap (λ (m : ℕ). read m (w adding b)) (less b))))
-
   -- a node: no byte, a split, which is refused where no input is left, or a closing
   abbrev at_node : ℕ → Fault → Fault
   at_node at split = node (straight n) (closing_fault n q f g c) c w at split
 
-  node_is : (at : ℕ) → tree_fault n q f g c w at ≡ at_node at (cond (leb n (length w)) (fault 16 at) (children 0 (at + 1)))
+  pub node_is : (at : ℕ) → tree_fault n q f g c w at ≡ at_node at (cond (leb n (length w)) (fault 16 at) (children 0 (at + 1)))
   unfolding tree_fault read_tree children offered
   node_is at = go (n - length w) refl
     where

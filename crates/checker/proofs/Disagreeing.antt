@@ -1,6 +1,6 @@
 -- What was found of two functions' disagreement says which fault the wiring has: none, or 14 with the pattern.
 use Prim.Native.Nat.{ℕ, ◌^◌}
-use mathlib.Core.Path.{◌≡◌, refl, ap}
+use mathlib.Core.Path.{◌≡◌, refl}
 use mathlib.Core.Bool.{Bool, cond}
 use mathlib.Core.List.{List}
 use Rattle.std.proofs.Common.{Ok, Err, Option, None, Some}
@@ -14,19 +14,6 @@ use Rattle.answers.specs.Verdicts.{verdict}
 use Rattle.records.specs.Records.{inputs}
 use Rattle.wirings.specs.Wirings.{read_at, disagree_at, agrees, disagreement}
 use Rattle.checker.specs.Checking.{agreement_fault}
-
--- no fault where they do not disagree, and else 14 with the pattern
-module _ (q : ℕ) (f g w : List ℕ) where
-  abbrev differ : ℕ → Bool
-  differ y = disagree_at q f g (read_at w y) y
-
-  pub agree_nowhere : disagreement q f g w ≡ None → agreement_fault q f g w ≡ sound
-  unfolding agreement_fault agrees disagreement
-  agree_nowhere e = simp (none_any differ (2 ^ inputs g) e)
-
-  pub disagree_at_pattern : (x : ℕ) → disagreement q f g w ≡ Some x → agreement_fault q f g w ≡ fault_at 14 0 x
-  unfolding agreement_fault agrees disagreement or_zero
-  disagree_at_pattern x e = simp (found_any differ (2 ^ inputs g) x e) (ap (λ (o : Option ℕ). fault_at 14 0 (or_zero o)) e)
 
 -- as the code tells it
 abbrev pub agreed : Option ℕ → Result (Unit {0}) Fault

@@ -40,13 +40,6 @@ pub onward_both : (f : Fault) (next : ℕ → Fault) → (f onward next).code �
 unfolding ◌onward◌
 onward_both f next = chosen (λ (f : Fault). f.code) f.code (next f.place) f refl
 
--- as a function meets them: f is the fault that it found, and g what the definition says
-pub onward_met : (f g : Fault) (next : ℕ → Fault) (r : Fault) → f ≡ g → f.code ≡ 0 → r ≡ next f.place → r ≡ g onward next
-onward_met f g next r e z h = h ∙ sym (onward_next f next z) ∙ ap (λ (f : Fault). f onward next) e
-
-pub onward_ends : (f g : Fault) (next : ℕ → Fault) → f ≡ g → (f.code ≡ 0 → ⊥) → f ≡ g onward next
-onward_ends f g next e bad = sym (onward_stop f next bad) ∙ ap (λ (f : Fault). f onward next) e
-
 -- ---- bytes at a place
 
 -- the bytes stand in c from `at` on, and the place after them is `after`

@@ -171,16 +171,6 @@ lists_meet m h l l' = some_same _ _ l (each_all _ (λ P N. cube_meets m h P N l'
 pub as_cubes : (x : ℕ) (l : List ℕ) → x < 2 ^ 8 → some_cube (cubes_share 8 x (2 ^ 8 - 1 - x)) l ≡ some_holds l x
 as_cubes x l h = some_same _ _ l (each_all _ (λ P N. as_cube P N x h) l)
 
--- what was found says whether two cubes share a pattern
-module _ (n P N P' N' : ℕ) where
-  pub shared_at : (x : ℕ) → least_shared n P N P' N' ≡ Some x → cubes_share n P N P' N' ≡ true
-  unfolding least_shared cubes_share
-  shared_at x e = found_any (λ x. cube_holds P N x && cube_holds P' N' x) (2 ^ n) x e
-
-  pub shared_nowhere : least_shared n P N P' N' ≡ None → cubes_share n P N P' N' ≡ false
-  unfolding least_shared cubes_share
-  shared_nowhere e = none_any (λ x. cube_holds P N x && cube_holds P' N' x) (2 ^ n) e
-
 -- ---- patterns as numbers
 
 number_lesser : (a b : Option ℕ) → number_of a ≤ 256 → number_of b ≤ 256 → number_of (lesser a b) ≡ min (number_of a) (number_of b)

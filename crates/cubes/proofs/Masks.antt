@@ -169,13 +169,6 @@ or_high own other = or_shr own other 8
 -- what shared masks give, whether they stand apart or in one number
 pub ruleset shared = (shared_none, shared_least, or_low, or_high)
 
--- the smallest pattern of two cubes whose masks stand in one number each
-pub least_joined : (own other : ℕ) → own < 2 ^ 16 → other < 2 ^ 16
-    → least_shared 8 (own % 256) (own / 256) (other % 256) (other / 256) ≡ cond (eqb (bit_and (bit_or own other % 256) (bit_or own other / 256)) 0) (Some (bit_or own other % 256)) None
-least_joined own other h k =
-    least_masks (own % 256) (own / 256) (other % 256) (other / 256) (omega arith) (omega arith) (omega arith) (omega arith)
-    ∙ ap₂ (λ (P N : ℕ). cond (eqb (bit_and P N) 0) (Some P) None) (sym (or_low own other)) (sym (or_high own other))
-
 -- masks in one number are read off again
 pub least_apart : (P N P' N' own other : ℕ) → P < 2 ^ 8 → P' < 2 ^ 8 → own ≡ N * 256 + P → other ≡ N' * 256 + P'
     → least_shared 8 (own % 256) (own / 256) (other % 256) (other / 256) ≡ least_shared 8 P N P' N'

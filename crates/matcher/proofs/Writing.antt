@@ -3,10 +3,10 @@
 use Prim.Native.Nat.{ℕ, ◌+◌, ◌*◌, ◌≤◌, ◌<◌}
 use mathlib.Core.Path.{◌≡◌, refl, sym, ap, ap₂, ◌∙◌}
 use mathlib.Core.List.{List, []}
-use Rattle.std.specs.declared.option.Option.TheVariants.{None, Some}
+use Rattle.std.specs.declared.option.Option.TheVariants.{None}
 use native.Mathlib.Numerals.{add-one}
 use native.Mathlib.Omega.{arith}
-use lib.ListN.{length, set, length-set}
+use lib.ListN.{length, set}
 use lib.Seq.{sets}
 use Rattle.rules.specs.Rules.{◌adding◌}
 use Rattle.answers.proofs.Stores.{sets_join}
@@ -14,7 +14,6 @@ use Rattle.wirings.specs.Wirings.{choice_at}
 use Rattle.wirings.specs.Pairs.{first_dead}
 use Rattle.wirings.proofs.Choices.{offered, offered_end}
 use Rattle.partial.specs.declared.Masks.{Masks}
-use Rattle.partial.specs.declared.Pair.{Pair as PairFound}
 use Rattle.partial.specs.Partial.{StandsFor, Formed, prefix, offer_from, found}
 use Rattle.partial.proofs.Steps.{Next, goes_on, begins, begins_all}
 use Rattle.claims.specs.Trees.{trees_bytes, tree_each}
@@ -42,17 +41,10 @@ module _ (r : Masks) (q : ℕ) (f g : List ℕ) where
     pub rest : sets out at (later k) ≡ sets before start bytes
 
   module _ (s : Formed r) where
-    -- a closing is three bytes
-    pub closing_room : (p : PairFound) → Some p ≡ found (first_dead n q f g w) → (start room : ℕ) → start + length bytes ≤ room → start + 3 ≤ room
-    closing_room p e start room fit = omega (arith, ap length (closing_node r q f g s p e))
-
     -- a split begins with FF, and the trees come after it
     module _ (e : None ≡ found (first_dead n q f g w)) where
       pub mark_room : (start room : ℕ) → start + length bytes ≤ room → start < room
       mark_room start room fit = omega (arith, ap length (opened_node r q f g s e))
-
-      pub split_room : (before : List ℕ) (start : ℕ) → start + length bytes ≤ length before → start + 1 + length (later 0) ≤ length (set before start 0xFF)
-      split_room before start fit = omega (arith, ap length (opened_node r q f g s e), length-set before start 0xFF)
 
       pub writing_start : (before : List ℕ) (start k : ℕ) → k ≡ offer_from n w 0
           → Writing before start k (start + 1) (set before start 0xFF)
@@ -91,14 +83,6 @@ module _ (r : Masks) (q : ℕ) (f g : List ℕ) where
   pub later_end : (k : ℕ) → 2 * n ≤ k → later k ≡ []
   unfolding tree_each trees_bytes
   later_end k h = ap (branches n q f g w) (offered_end n w k h)
-
-  -- and all is written
-  module _ (before : List ℕ) (start k : ℕ) (h : 2 * n ≤ k) (at : ℕ) (out : List ℕ) (i : Writing before start k at out) where
-    pub end_written : at ≡ start + length bytes
-    end_written = omega (arith, ap length (later_end k h), i.long)
-
-    pub all_written : out ≡ sets before start bytes
-    all_written = sym (ap (sets out at) (later_end k h)) ∙ i.rest
 
 -- a node that is closed, and the end of one that is split
 pub ruleset writing = (closing_node, few_found, later_end)

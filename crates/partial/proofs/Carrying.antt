@@ -6,7 +6,6 @@ use mathlib.Core.Bool.{Bool, true, false, cond, not, ◌&&◌, ◌||◌, and_ass
 use mathlib.Core.List.{List, []}
 use native.Mathlib.Nat.{lt_of_le_of_lt, lt_of_lt_of_le}
 use native.Mathlib.Omega.{arith}
-use borrow.Author.Tests.{eq-eqb, ne_eqb}
 use lib.Bits.{bit_and, bit_or, bit_xor, xor_comm, and_le_r, or_lt}
 use lib.Dec.{ltb, eqb}
 use lib.ListN.{length, get_or}
@@ -57,17 +56,6 @@ module _ (c : Carried) (P' N' : ℕ) (p : P' < 2 ^ 8) (m : N' < 2 ^ 8) where
       turned : (t : Bool) {u : Bool} → not t ≡ u → t ≡ not u
       turned true e = ap not e
       turned false e = ap not e
-
--- ---- the literals that wait: on an unplaced input of f, and on an unused input of g
-
-module _ (r : Masks) (s : Formed r) (P N : ℕ) where
-  -- the inputs of g at which a literal may still come to stand: none, or those that are free
-  pub none_waits : bit_and (bit_or P N) r.unplaced ≡ 0 → 0 ≡ cond (unplaced_literal r.n (prefix r) P N) (mask r.n (unused (prefix r))) 0
-  none_waits e = ap {B = ℕ} (λ (t : Bool). cond t (mask r.n (unused (prefix r))) 0) (sym (ap not (eq-eqb _ 0 e)) ∙ waits r s P N)
-
-  pub one_waits : (bit_and (bit_or P N) r.unplaced ≡ 0 → ⊥) → r.free ≡ cond (unplaced_literal r.n (prefix r) P N) (mask r.n (unused (prefix r))) 0
-  one_waits e =
-      stands_free r r.n (prefix r) s ∙ ap (λ (t : Bool). cond t (mask r.n (unused (prefix r))) 0) (sym (ap not (ne_eqb _ 0 e)) ∙ waits r s P N)
 
 -- the inputs of g at which a literal that waits may come to stand
 free_meets : (U : Bool) (n : ℕ) → n ≤ 8 → (w : List ℕ) (P' N' : ℕ)

@@ -2,12 +2,11 @@
 -- the inputs of g at which the literal of input i is opposed, some bit stays exactly where the literal separates the pair.
 use Prim.Native.Nat.{ℕ, zero, suc, ◌+◌, ◌*◌, ◌/◌, ◌%◌, ◌^◌, ◌≤◌, ◌<◌}
 use mathlib.Core.Path.{◌≡◌, refl, sym, ap, ap₂, ◌∙◌}
-use mathlib.Core.Bool.{Bool, true, false, cond, not, ◌&&◌, ◌||◌, xor, and_assoc, and_comm, and-true, and-false, or-true}
+use mathlib.Core.Bool.{Bool, true, false, cond, not, ◌&&◌, ◌||◌, xor, and_assoc, and_comm}
 use mathlib.Core.List.{List}
-use mathlib.Core.Logic.{◌⊎◌, inl, inr}
 use native.Mathlib.Nat.{le_trans, lt_of_le_of_lt, lt_of_lt_of_le}
 use native.Mathlib.Omega.{arith}
-use borrow.Author.Tests.{ltb-true, lt-ltb, eqb-true, eq-eqb, ne_eqb}
+use borrow.Author.Tests.{ltb-true, lt-ltb, eqb-true, eq-eqb}
 use lib.Bits.{bit_and, bit_or, bit_xor, xor_comm, and_le_r, and_le_l}
 use lib.Dec.{ltb, eqb}
 use lib.Pow.{pow_mono}
@@ -19,7 +18,7 @@ use Rattle.bits.proofs.Bit.{has_or, has_and, has_xor, any_bit}
 use Rattle.bits.proofs.Mask.{mask_lt, mask_has, mask_at}
 use Rattle.cubes.specs.Cubes.{cube_names}
 use Rattle.wirings.specs.Wirings.{input_of, inverted}
-use Rattle.wirings.specs.Pairs.{asks_one, opposed, separates, unplaced, unused, unplaced_literal, unused_literal, dead}
+use Rattle.wirings.specs.Pairs.{asks_one, opposed, separates, unplaced, unused, unplaced_literal, unused_literal}
 use Rattle.wirings.proofs.Choices.{placed_input}
 use Rattle.partial.specs.declared.Masks.{Masks}
 use Rattle.partial.specs.Partial.{inverts, serves, prefix, Formed}
@@ -150,23 +149,3 @@ module _ (r : Masks) (s : Formed r) where
           ∙ any_same _ _ 8 (λ i h. any_same _ _ 8 (λ j l. met_has i j h l) ∙ any_place (ltb i (length w)) (input_of (get_or w i 0)) (against_row i) 8 (inside i))
           ∙ any_under (λ i. against_row i (input_of (get_or w i 0))) (length w) 8 within
           ∙ any_same _ _ (length w) row_opposed
-
-    -- ---- the pair is dead
-
-    -- not while a literal waits on either side
-    pub both_wait : (bit_and (bit_or P N) r.unplaced ≡ 0 → ⊥) → (bit_and (bit_or P' N') r.free ≡ 0 → ⊥) → false ≡ dead r.n w P N P' N'
-    unfolding dead
-    both_wait e e' =
-        sym (and-false (not (separates w P N P' N')))
-        ∙ ap₂ (λ (u v : Bool). not (separates w P N P' N') && (not u || not v)) (sym (ap not (ne_eqb _ 0 e)) ∙ waits P N) (sym (ap not (ne_eqb _ 0 e')) ∙ awaits P' N')
-
-    -- and else where no placed literal separates it
-    pub none_waits_on : ◌⊎◌ (bit_and (bit_or P N) r.unplaced ≡ 0) (bit_and (bit_or P' N') r.free ≡ 0) → not (separates w P N P' N') ≡ dead r.n w P N P' N'
-    unfolding dead
-    none_waits_on (inl e) =
-        sym (and-true (not (separates w P N P' N')))
-        ∙ ap (λ (u : Bool). not (separates w P N P' N') && (not u || not (unused_literal r.n w P' N'))) (sym (ap not (eq-eqb _ 0 e)) ∙ waits P N)
-    none_waits_on (inr e) =
-        sym (and-true (not (separates w P N P' N')))
-        ∙ ap (λ (t : Bool). not (separates w P N P' N') && t)
-        (sym (or-true (not (unplaced_literal r.n w P N))) ∙ ap (λ (v : Bool). not (unplaced_literal r.n w P N) || not v) (sym (ap not (eq-eqb _ 0 e)) ∙ awaits P' N'))

@@ -21,7 +21,7 @@ use Rattle.rules.specs.Rules.{follows, ◌adding◌}
 use Rattle.records.specs.Records.{Bytes}
 use Rattle.wirings.specs.Wirings.{input_of, inverted, straight, is_choice, uses, free_choice}
 use Rattle.wirings.specs.Pairs.{unplaced, unused}
-use Rattle.wirings.proofs.Choices.{choice_input, choice_byte, choice_below, plain_choice, place_next, free_count, uses_adding, placed_choice}
+use Rattle.wirings.proofs.Choices.{choice_input, choice_byte, choice_below, place_next, free_count, uses_adding, placed_choice}
 use Rattle.partial.specs.declared.Masks.{Masks}
 use Rattle.partial.specs.Partial.{as_number, inverts, serves, partial, prefix, StandsFor, Formed, may_place, located}
 use Rattle.partial.proofs.Joined.{number_lt, number_add, number_at, number_bytes}
@@ -172,10 +172,6 @@ module _ (r : Masks) (l : ℕ) (s : Formed r) (literal : is_choice r.depth l ≡
           (λ (k : 16 ≤ b). simp (le-leb 16 b k) (omega (arith, xor_add_and b 16, inverted_four b k low)))
           (below_or_not b 16)))
           (below_or_not l 16)
-
--- a plain literal of a placed input
-pub input_literal : (r : Masks) → Formed r → (i : ℕ) → i < r.depth → is_choice r.depth i ≡ true
-input_literal r s i h = (plain_choice r.depth (omega (arith, depth_few r s)) i h).0
 
 -- ---- one choice more
 

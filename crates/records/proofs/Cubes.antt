@@ -6,7 +6,7 @@ use mathlib.Core.List.{List, [], ◌∷◌}
 use borrow.Author.Tests.{eq-eqb, eqb-true, eqb-false}
 use native.Mathlib.Omega.{arith}
 use lib.Dec.{eqb}
-use lib.ListN.{length, get_or, take, drop}
+use lib.ListN.{get_or, take, drop}
 use lib.Seq.{take-add, drop_at, drop-drop, get_or-drop, length-take-le}
 use Rattle.bits.specs.Bits.{any, or_zero}
 use Rattle.bits.proofs.Smallest.{found_any, none_any, smallest_narrow}
@@ -113,10 +113,6 @@ pub all_clean : (s : List ℕ) → Bytes s → (cubes_fault s).code ≡ 0 → Cl
 all_clean s bytes e = clean_list (inputs s) (drop 5 s) 5 (λ i. subst (λ (b : ℕ). b < 2 ^ 8) (sym (get_or-drop 5 s i 0)) (bytes (5 + i))) e
 
 module _ (s : List ℕ) (framed : Framed s) where
-  -- what stands before the off list
-  pub front_long : length (take (off_at s) s) ≡ off_at s
-  front_long = length-take-le (off_at s) s (omega arith)
-
   -- the on list is what stands between the cubes' start and the off list's
   pub on_front : drop (cubes_at s) (take (off_at s) s) ≡ on_list s
   unfolding on_list

@@ -159,9 +159,6 @@ module _ (text : List ℕ) (at : ℕ) (h : at < length text) (to last : ℕ) (lo
       let far = over_from is_lf (to - at) (drop at text) (omega (arith, high, line_beyond (drop at text))) in
       omega (arith, low, ends, far, ap (passed_over is_lf) (drop-drop (to - at) at text ∙ ap (λ (k : ℕ). drop k text) back))
 
-  pub to_within : to ≤ length text
-  to_within = omega (arith, high, h, passed_over_within ends_bare (drop at text), length-drop at text)
-
   pub last_within : (at ≤ last) × (last ≤ length text)
   last_within = (omega (arith, line_ends), omega (arith, line_ends, passed_over_within is_lf (drop at text), length-drop at text))
 

@@ -414,29 +414,6 @@ module _ (text : List ℕ) (at from to start end next : ℕ) (f : Found text at 
         (λ y. z (char_is ∙ y)))
         ∙ ap₂ (λ (w v : List ℕ). Term (term_seen w (after t v))) (sym one_is) (sym two_is)
 
-    -- the words lie in the text, and the first has a character
-    pub from_below : from < length text
-    from_below = omega (arith, before_end, from_lies.low, bare_in_text text at f.begins)
-
-  pub from_in : from ≤ length text
-  from_in = in_text text at f.begins from from_lies
-
-  pub to_in : to ≤ length text
-  to_in = in_text text at f.begins to to_lies
-
-  pub start_in : start ≤ length text
-  start_in = in_text text at f.begins start start_lies_here
-
-  pub end_in : end ≤ length text
-  end_in = in_text text at f.begins end end_lies_here
-
-  pub next_in : next ≤ length text
-  next_in = in_text text at f.begins next next_lies
-
-  -- and the last of these places in the line
-  pub next_low : at ≤ next
-  next_low = next_lies.low
-
 -- ---- and so the code finds it
 
 -- where the word after a place starts, and where one ends

@@ -1,7 +1,7 @@
 -- What is kept of a term line: what it is of, test by test, and the masks character by character.
 use Rattle.std.proofs.Common.{◌≡◌, ℕ, List, ◌+◌, ◌*◌, ◌≤◌, ◌<◌, ◌^◌, Bool, true, false, cond, ◌&&◌, length, get_or, drop, refl, sym, ap, ◌∙◌, arith, add-one}
 use mathlib.Core.Bool.{and-false}
-use borrow.Author.Tests.{eq-eqb, ne_eqb, le-leb, lt-leb}
+use borrow.Author.Tests.{eq-eqb, lt-leb}
 use lib.Pow.{pow_mono}
 use native.Mathlib.Nat.{pow-suc}
 use lib.Dec.{eqb, leb}
@@ -16,9 +16,13 @@ use Rattle.terms.specs.declared.Term.{Term}
 use Rattle.terms.specs.Terms.{is_input, is_output, on_char, off_char, well_formed}
 use Rattle.terms.specs.Seen.{masked, term_seen, after}
 
--- the next weight, of eight
+-- the next weight is twice this one
 pub next_weight : (i x : ℕ) → x ≡ 2 ^ i → x * 2 ≡ 2 ^ (i + 1)
 next_weight i x e = ap (λ (y : ℕ). y * 2) e ∙ sym (ap (λ (k : ℕ). 2 ^ k) (add-one i) ∙ pow-suc 2 i)
+
+-- and the weight of input i is 256 at most, for eight inputs
+pub weight_most : (i x : ℕ) → x ≡ 2 ^ i → i ≤ 8 → x ≤ 256
+weight_most i x weighs few = omega (arith, weighs, pow_mono {i = i} {j = 8} few)
 
 module _ (w : List ℕ) where
   -- the mask of the first i inputs with a character, and whether those from i on are all inputs
@@ -42,13 +46,13 @@ module _ (w : List ℕ) where
   unfolding so_far number
   none_so_far c = refl
 
-  -- it has i bits, of eight
-  pub narrow : (c i p x : ℕ) → p ≡ so_far c i → x ≡ 2 ^ i → i ≤ 8 → (p < x) × (x ≤ 256)
+  -- it is below the weight of input i; so with one such weight more it is below 512
+  pub below_weight : (c i p x : ℕ) → p ≡ so_far c i → x ≡ 2 ^ i → p < x
   unfolding so_far
-  narrow c i p x e weighs few =
-      let low = mask_lt i (λ k. eqb (get_or w k 0) c) in
-      let most = pow_mono {i = i} {j = 8} few in
-      (omega (arith, low, e, weighs), omega (arith, most, weighs))
+  below_weight c i p x e weighs = omega (arith, e, weighs, mask_lt i (λ k. eqb (get_or w k 0) c))
+
+  pub sum_most : (c i p x v : ℕ) → p ≡ so_far c i → x ≡ 2 ^ i → i ≤ 8 → v ≤ x → p + v < 512
+  sum_most c i p x v e weighs few l = omega (arith, below_weight c i p x e weighs, weight_most i x weighs few, l)
 
   -- one more input adds its weight, or none
   pub one_more : (c i p x v : ℕ) → p ≡ so_far c i → x ≡ 2 ^ i → v ≡ cond (eqb (get_or w i 0) c) x 0 → p + v ≡ so_far c (i + 1)
@@ -70,7 +74,7 @@ module _ (w : List ℕ) where
   unfolding inputs_from each_in
   end_decides i h = ap (each_in is_input) (drop_of_length-le w h)
 
-pub ruleset masking = (masked_by, none_so_far, next_decides, end_decides)
+pub ruleset masking = (masked_by, none_so_far, below_weight, weight_most, next_decides, end_decides)
 
 -- nothing is seen in more than eight characters
 pub term_long : (w : List ℕ) (ws : List (List ℕ)) → 8 < length w → term_seen w ws ≡ None
@@ -92,14 +96,3 @@ term_by w out true =
     go x true false true = refl
     go x true false false = refl
     go x false b c = refl
-
--- so with nothing alone behind it, with more than one character, and with one
-pub none_behind : (w out : List ℕ) (b : Bool) → b ≡ false → term_seen w (after b out) ≡ None
-none_behind w out b e = term_by w out b ∙ simp e
-
-pub long_behind : (w out : List ℕ) (b : Bool) → (length out ≡ 1 → ⊥) → term_seen w (after b out) ≡ None
-long_behind w out b h = term_by w out b ∙ simp (ne_eqb _ _ h, and-false)
-
-pub one_behind : (w out : List ℕ) → length w ≤ 8 → (b : Bool) → b ≡ true → length out ≡ 1 → (t : Bool) → is_output (get_or out 0 0) ≡ t
-    → term_seen w (after b out) ≡ cond t (masked w (get_or out 0 0)) None
-one_behind w out few b there h t e = term_by w out b ∙ simp (there, le-leb _ _ few, eq-eqb _ _ h, e)

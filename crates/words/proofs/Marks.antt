@@ -4,7 +4,7 @@
 use Prim.Native.Nat.{ℕ, zero, suc, ◌+◌, ◌*◌, ◌/◌, ◌%◌, ◌^◌, ◌<◌}
 use mathlib.Core.Path.{◌≡◌, refl, ap, ap₂, ◌∙◌}
 use mathlib.Core.Bool.{Bool, true, false, cond}
-use mathlib.Core.List.{List, [], ◌∷◌}
+use mathlib.Core.List.{List}
 use native.Mathlib.Nat.{div-div-eq-div-mul, mod-lt, zero-lt-suc}
 use native.Mathlib.Omega.{arith}
 use borrow.Author.Tests.{eqb-true}
@@ -120,31 +120,6 @@ first_mark (suc k) x =
     go m false e =
         let shifted : m * 256 + 0 ≡ m * 2 ^ 8 = omega arith in
         omega (arith, ap (count_trailing_zeros (8 + 8 * k)) shifted ∙ zeros_shl 8 (8 * k) m, e)
-
--- ---- bytes put together
-
-bytes_cons : (k h b : ℕ) → b < 256 → bytes (suc k) (h * 256 + b) ≡ b ∷ bytes k h
-unfolding bytes
-bytes_cons k h b small =
-    let lowest : (h * 256 + b) % 256 ≡ b = omega arith in
-    let others : (h * 256 + b) / 256 ≡ h = omega arith in
-    ap₂ (λ (a n : ℕ). a ∷ bytes k n) lowest others
-
--- eight bytes, each at its place
-pub bytes_eight : (a b c d e f g h : ℕ) → a < 256 → b < 256 → c < 256 → d < 256 → e < 256 → f < 256 → g < 256 → h < 256
-    → bytes 8 (a + 256 * b + 65536 * c + 16777216 * d + 4294967296 * e + 1099511627776 * f + 281474976710656 * g + 72057594037927936 * h)
-    ≡ a ∷ b ∷ c ∷ d ∷ e ∷ f ∷ g ∷ h ∷ []
-unfolding bytes
-bytes_eight a b c d e f g h la lb lc ld le lf lg lh =
-    ap (bytes 8) whole
-    ∙ bytes_cons 7 _ a la ∙ on a (bytes_cons 6 _ b lb ∙ on b (bytes_cons 5 _ c lc ∙ on c (bytes_cons 4 _ d ld ∙ on d (bytes_cons 3 _ e le ∙ on e (bytes_cons 2 _ f lf ∙ on f (bytes_cons 1 (0 * 256 + h) g lg ∙ on g (bytes_cons 0 0 h lh)))))))
-  where
-    whole : a + 256 * b + 65536 * c + 16777216 * d + 4294967296 * e + 1099511627776 * f + 281474976710656 * g + 72057594037927936 * h
-        ≡ (((((((0 * 256 + h) * 256 + g) * 256 + f) * 256 + e) * 256 + d) * 256 + c) * 256 + b) * 256 + a
-    whole = omega arith
-
-    on : (b : ℕ) {l m : List ℕ} → l ≡ m → b ∷ l ≡ b ∷ m
-    on b e = ap (λ (l : List ℕ). b ∷ l) e
 
 -- ---- eight bytes read as one number
 

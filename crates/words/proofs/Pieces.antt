@@ -9,7 +9,7 @@ use native.Mathlib.Omega.{arith}
 use borrow.Author.Tests.{not-true, lt-ltb}
 use lib.Dec.{ltb}
 use lib.ListN.{length, get_or, take, drop, length-take, drop_of_length-le}
-use lib.Seq.{drop-cons, drop-length}
+use lib.Seq.{drop-cons}
 use Rattle.std.specs.List.{position_or_len}
 use Rattle.std.proofs.lemmas.List.Recursion.{is_position_or_len}
 use Rattle.std.proofs.lemmas.List.Sums.{prefix_len-le-length, passes_at_first}
@@ -198,10 +198,6 @@ words_from (c ∷ s) = go (is_blank c) refl (words_from s)
         → words (c ∷ s) ≡ words (drop (cond (not b) 0 (suc (to_word s))) (c ∷ s))
     go true e later = blank_before c s e ∙ later
     go false e later = refl
-
--- no word where every character is a blank
-pub words_blank : (s : List ℕ) → to_word s ≡ length s → words s ≡ []
-words_blank s e = words_from s ∙ ap (λ (k : ℕ). words (drop k s)) e ∙ ap words (drop-length s) ∙ words_none
 
 -- behind a word comes a blank, or nothing
 blank_after : (s : List ℕ) → words (drop (passed_over is_blank s) s) ≡ words (drop (suc (passed_over is_blank s)) s)

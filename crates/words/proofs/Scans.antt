@@ -11,23 +11,20 @@ use lib.ListN.{length, get_or, take, drop, length-drop, drop_of_length-le}
 use lib.Seq.{drop-cons, drop-drop}
 use Rattle.std.specs.Cmp.Lexicographic.{pointwise}
 use Rattle.std.specs.Int.{w8, w64, from_le_bytes}
-use Rattle.std.specs.List.{position}
-use Rattle.std.specs.Option.{unwrap_or}
 use Rattle.std.specs.Simd.{first_chunks}
 use Rattle.std.specs.declared.option.Option.{Option}
 use Rattle.std.specs.declared.option.Option.TheVariants.{None, Some}
 use Rattle.std.proofs.Common.{Fits}
 use Rattle.std.proofs.Math.Facts.{Fits-lt-pow}
-use Rattle.std.proofs.lemmas.Bool.Decides.{nat_tests}
 use Rattle.std.proofs.lemmas.List.{take_rest, length-take-le, get_or-drop}
 use Rattle.bits.proofs.Tests.{not_passed}
 use Rattle.rules.specs.Lists.{passed_over, each_in, same}
 use Rattle.rules.proofs.Lists.{same_is}
 use Rattle.words.specs.Counted.{most, counted}
 use Rattle.words.specs.Eight.{bytes}
-use Rattle.words.specs.Words.{is_lf, is_digit, is_number, read_on}
+use Rattle.words.specs.Words.{is_lf, is_digit, read_on}
 use Rattle.words.proofs.Marks.{bytes_read}
-use Rattle.words.proofs.Pieces.{is_position, passed_over_within, over_from}
+use Rattle.words.proofs.Pieces.{over_from}
 
 -- what stands at a place, and what comes after it
 pub from_here : (s : List ℕ) (i : ℕ) → i < length s → drop i s ≡ get_or s i 0 ∷ drop (i + 1) s
@@ -59,10 +56,6 @@ module _ (p : ℕ → Bool) (s : List ℕ) (at : ℕ) where
     unfolding passed_over
     scan_ends h = omega (arith, w.rest, ap (passed_over p) (drop_of_length-le s h))
 
--- as std finds it: at a position, or nowhere and then all are passed over
-pub position_passed : (p : ℕ → Bool) (s : List ℕ) → unwrap_or (position p s) (length s) ≡ passed_over p s
-position_passed p s = grind (arith, nat_tests, is_position p s, passed_over_within p s)
-
 -- the first n characters decide where one of them passes
 front_over : (p : ℕ → Bool) (n : ℕ) (l : List ℕ) → passed_over p (take n l) ≡ min n (passed_over p l)
 unfolding passed_over
@@ -74,22 +67,6 @@ front_over p (suc n) (c ∷ l) = go (p c) (front_over p n l)
         → cond t 0 (suc (passed_over p (take n l))) ≡ min (suc n) (cond t 0 (suc (passed_over p l)))
     go true e = omega arith
     go false e = omega arith
-
--- the eight characters from a place on, one by one
-pub eight_here : (s : List ℕ) (i : ℕ) → i + 8 ≤ length s → (l : List ℕ)
-    → l ≡ get_or s i 0 ∷ get_or s (i + 1) 0 ∷ get_or s (i + 2) 0 ∷ get_or s (i + 3) 0 ∷ get_or s (i + 4) 0 ∷ get_or s (i + 5) 0 ∷ get_or s (i + 6) 0 ∷ get_or s (i + 7) 0 ∷ []
-    → l ≡ take 8 (drop i s)
-eight_here s i h l each =
-    each
-    ∙ sym (ap (take 8) (from_here s i (omega arith)) ∙ on i (next 1 6 (omega arith) ∙ on (i + 1) (next 2 5 (omega arith) ∙ on (i + 2) (next 3 4 (omega arith) ∙ on (i + 3) (next 4 3 (omega arith) ∙ on (i + 4) (next 5 2 (omega arith) ∙ on (i + 5) (next 6 1 (omega arith) ∙ on (i + 6) (next 7 0 (omega arith)))))))))
-  where
-    on : (j : ℕ) {l m : List ℕ} → l ≡ m → get_or s j 0 ∷ l ≡ get_or s j 0 ∷ m
-    on j e = ap (λ (l : List ℕ). get_or s j 0 ∷ l) e
-
-    next : (k n : ℕ) → i + k < length s → take (suc n) (drop (i + k) s) ≡ get_or s (i + k) 0 ∷ take n (drop (i + suc k) s)
-    next k n l =
-        let same : suc (i + k) ≡ i + suc k = omega arith in
-        ap (take (suc n)) (drop-cons s (i + k) 0 l) ∙ ap (λ (j : ℕ). get_or s (i + k) 0 ∷ take n (drop j s)) same
 
 -- ---- the end of a line
 
@@ -211,11 +188,6 @@ reads_on x (d ∷ ds) h = go (is_digit d) (reads_on (then_digit x d) ds (omega a
         → cond t (reading (then_digit x d) ds) None ≡ cond (t && each_in is_digit ds) (read_all (10 * x + (d - 48)) ds) None
     go true e = simp (cut_early most (10 * x + (d - 48)) ds) e
     go false e = refl
-
--- a word that is no number has none
-pub no_number : (w : List ℕ) → is_number w ≡ false → counted w ≡ None
-unfolding counted
-no_number w e = simp e
 
 -- a word that has no character, and one that has some
 

@@ -9,7 +9,7 @@ ghost use Rattle.words.specs.Counted.{most, counted};
 ghost use Rattle.words.specs.Eight.{bytes};
 
 // Where the first character from `at` on stands at which a text stops, or where the text ends. A `while`: with a `for` or `position`
-// each character costs a jump more, which is a quarter of the time of a table.
+// each character costs a jump more.
 fn passed<F: FnMut(&u8) -> bool>(text: &[u8], at: usize, stops: F) -> usize
     requires at_in_bounds { at ≤ length text.now }
     requires stops_callable { (state : F) (c : _) → F.pre state c }
@@ -89,7 +89,7 @@ pub fn word_end(text: &[u8], at: usize) -> usize
     passed(text, at, |c| ends(*c))
 }
 
-// Whether two words are the same, one by one: `==` calls for a comparison by groups, which is slower for words as short as these.
+// Whether two words are the same, character by character: `==` calls for a comparison by groups, which is slower for words as short as these.
 pub fn same(w: &[u8], v: &[u8]) -> bool
     ensures { result ≡ same_list w.now v.now }
 {

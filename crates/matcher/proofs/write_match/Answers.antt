@@ -1,5 +1,5 @@
 -- Too short for the claim, the buffer left alone; or the header is stored, and then the choices: the low bytes of their number.
-use Rattle.std.proofs.Common.{◌≡◌, ℕ, List, [], ◌∷◌, refl, sym, ap, ◌∙◌, arith}
+use Rattle.std.proofs.Common.{ℕ, List, [], ◌∷◌, refl, sym, ap, ◌∙◌, arith}
 use Rattle.std.proofs.lemmas.List.Edits.{sets}
 use Rattle.answers.proofs.Stores.{sets_join, delivered_short, delivered_whole}
 use Rattle.partial.specs.Partial.{as_bytes}

@@ -2,7 +2,7 @@
 use Rattle.std.proofs.Common.{◌∙◌, arith}
 use Rattle.std.proofs.lemmas.Grind.{common_steps}
 use Rattle.terms.specs.Terms.{on_char, off_char}
-use Rattle.terms.proofs.Seen.{masking, one_more, narrow, next_weight, goes_on}
+use Rattle.terms.proofs.Seen.{masking, sum_most, one_more, next_weight, goes_on}
 use Rattle.terms.proofs.masks.Goals as goal
 
 pub returns-then-not-input : goal.returns-then-not-input
@@ -11,29 +11,12 @@ returns-then-not-input c = grind (arith, common_steps, masking)
 pub overflow_add-pos : goal.overflow_add-pos
 overflow_add-pos c =
     let k = c.loop-c in
-    let low = narrow c.args.w.now on_char k.c-index _ _ k.invariant.1 k.invariant.0 (omega arith) in
-    omega (arith, low.0, low.1, c.worth-pos.ensures.upper_bound)
+    omega (arith, sum_most c.args.w.now on_char k.c-index _ _ _ k.invariant.1 k.invariant.0 (omega arith) c.worth-pos.ensures.upper_bound)
 
 pub overflow_add-neg : goal.overflow_add-neg
 overflow_add-neg c =
     let k = c.loop-c in
-    let low = narrow c.args.w.now off_char k.c-index _ _ k.invariant.2 k.invariant.0 (omega arith) in
-    omega (arith, low.0, low.1, c.worth-neg.ensures.upper_bound)
-
-pub overflow_mul-weight : goal.overflow_mul-weight
-overflow_mul-weight c =
-    let k = c.loop-c in
-    let low = narrow c.args.w.now on_char k.c-index _ _ k.invariant.1 k.invariant.0 (omega arith) in omega (arith, low.1)
-
-pub overflow_cast-cube : goal.overflow_cast-cube
-overflow_cast-cube c =
-    let k = c.loop-c in
-    let low = narrow c.args.w.now on_char k.c-index _ _ k.invariant.1 k.invariant.0 (omega arith) in omega (arith, low.0, low.1)
-
-pub overflow_cast-cube-2 : goal.overflow_cast-cube-2
-overflow_cast-cube-2 c =
-    let k = c.loop-c in
-    let low = narrow c.args.w.now off_char k.c-index _ _ k.invariant.2 k.invariant.0 (omega arith) in omega (arith, low.0, low.1)
+    omega (arith, sum_most c.args.w.now off_char k.c-index _ _ _ k.invariant.2 k.invariant.0 (omega arith) c.worth-neg.ensures.upper_bound)
 
 pub loop-c-preserved : goal.loop-c-preserved
 loop-c-preserved c =
