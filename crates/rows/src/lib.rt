@@ -4,7 +4,7 @@
 ghost use Rattle.std.specs.Prelude.{◌≡◌, ◌^◌, ◌<◌, length};
 ghost use Rattle.answers.specs.Verdicts.{code_number};
 ghost use Rattle.terms.specs.Terms.{on_char, off_char};
-ghost use Rattle.rows.specs.Known.{all_known, if_repeated, inputs_code, term_code, end_code, code_by, more_if, learnt, kept, kept_by, n_at_end, Gathered};
+ghost use Rattle.rows.specs.Known.{all_known, inputs_code, term_code, end_code, code_by, more_if, learnt, kept, kept_by, n_at_end, Gathered};
 
 use answers::{Code, Fault};
 use terms::{Line, Term};
@@ -27,13 +27,6 @@ fn complete(known: Known) -> bool
     ensures { result ≡ all_known known }
 {
     known.n.is_some() && known.one && known.fr
-}
-
-// A keyword that stood before is one too many.
-fn repeated(stood: bool) -> Option<Code>
-    ensures { code_number result ≡ if_repeated stood }
-{
-    stood.then_some(Code::BadLine)
 }
 
 // What is wrong with `.i` and number v, where n was told before, or not.
@@ -73,16 +66,18 @@ fn end_code(known: Known) -> Option<Code>
     }
 }
 
-// What is wrong with a line, if anything is.
+// What is wrong with a line, if anything is; a keyword that stood before is one too many. Guards tell that, and not a value that is
+// tested later: so each keyword goes straight on to what is learnt of it.
 fn judge(known: Known, line: Line) -> Option<Code>
     ensures { code_number result ≡ code_by known line }
 {
     match line {
         Line::Nothing => None,
         Line::Inputs(v) => inputs_code(known.n, v),
-        Line::Output => repeated(known.one),
-        Line::Fr => repeated(known.fr),
-        Line::Terms(_) => repeated(known.told.is_some()),
+        Line::Output if known.one => Some(Code::BadLine),
+        Line::Fr if known.fr => Some(Code::BadLine),
+        Line::Terms(_) if known.told.is_some() => Some(Code::BadLine),
+        Line::Output | Line::Fr | Line::Terms(_) => None,
         Line::Term(term) => term_code(known, term),
         Line::End => end_code(known),
         Line::Malformed => Some(Code::BadLine),

@@ -49,8 +49,10 @@ fn worth(c: u8, mark: u8, weight: u32) -> u32
     if c == mark { weight } else { 0 }
 }
 
-// The term of up to eight characters, input 0 first, with this output; none where one is not 0, 1 or -.
+// The term of up to eight characters, input 0 first, with this output; none where one is not 0, 1 or -. It stays a function of its own:
+// there its loop is unrolled, while within the walk over the lines it ran out of registers.
 #[tactic(auto, using(crate::proofs::Seen::masking))]
+#[inline(never)]
 fn masks(w: &[u8], out: u8) -> Option<Term>
     requires { length w.now ≤ 8 }
     ensures { result ≡ masked w.now out }
